@@ -1,0 +1,4 @@
+pub mod RecordLaws
+pub mod BitLaws
+pub mod Paths
+pub mod EvalLaws
