@@ -4,11 +4,11 @@ ghost use Prim.Native.Nat.{ℕ, _+_};
 ghost use Rattle.netlist.specs.Bit.{isKnown};
 ghost use Rattle.gates.specs.Made.{netOf, madeOf, Fits, gateNot, gateAnd, gateOr, gateResultHalf};
 ghost use Rattle.gates.specs.Fold.{notBit, andBit, orBit, xnorBit, XnorFits};
-use netlist::bit::Known;
-use netlist::record::Gate;
 use crate::made;
 use crate::made::At;
 use crate::made::Made;
+use netlist::bit::Known;
+use netlist::record::Gate;
 
 pub fn not_bit(gates: &mut [u32], at: At, a: u32) -> Made
     requires { ⌜ Fits (now gates) at 1 ⌝ }
@@ -16,9 +16,24 @@ pub fn not_bit(gates: &mut [u32], at: At, a: u32) -> Made
 {
     let operand = Gate::of(a);
     match operand {
-        Known::False => Made { bit: Gate::known(true), at },
-        Known::True => Made { bit: Gate::known(false), at },
-        Known::Unknown => made::append(gates, at, Gate { kind: Gate::NOT, x: a, y: 0, z: 0 }),
+        Known::False => Made {
+            bit: Gate::known(true),
+            at,
+        },
+        Known::True => Made {
+            bit: Gate::known(false),
+            at,
+        },
+        Known::Unknown => made::append(
+            gates,
+            at,
+            Gate {
+                kind: Gate::NOT,
+                x: a,
+                y: 0,
+                z: 0,
+            },
+        ),
     }
 }
 
@@ -29,12 +44,27 @@ pub fn and_bit(gates: &mut [u32], at: At, a: u32, b: u32) -> Made
     let left = Gate::of(a);
     let right = Gate::of(b);
     match left {
-        Known::False => Made { bit: Gate::known(false), at },
+        Known::False => Made {
+            bit: Gate::known(false),
+            at,
+        },
         Known::True => Made { bit: b, at },
         Known::Unknown => match right {
-            Known::False => Made { bit: Gate::known(false), at },
+            Known::False => Made {
+                bit: Gate::known(false),
+                at,
+            },
             Known::True => Made { bit: a, at },
-            Known::Unknown => made::append(gates, at, Gate { kind: Gate::AND, x: a, y: b, z: 0 }),
+            Known::Unknown => made::append(
+                gates,
+                at,
+                Gate {
+                    kind: Gate::AND,
+                    x: a,
+                    y: b,
+                    z: 0,
+                },
+            ),
         },
     }
 }
@@ -46,12 +76,27 @@ pub fn or_bit(gates: &mut [u32], at: At, a: u32, b: u32) -> Made
     let left = Gate::of(a);
     let right = Gate::of(b);
     match left {
-        Known::True => Made { bit: Gate::known(true), at },
+        Known::True => Made {
+            bit: Gate::known(true),
+            at,
+        },
         Known::False => Made { bit: b, at },
         Known::Unknown => match right {
-            Known::True => Made { bit: Gate::known(true), at },
+            Known::True => Made {
+                bit: Gate::known(true),
+                at,
+            },
             Known::False => Made { bit: a, at },
-            Known::Unknown => made::append(gates, at, Gate { kind: Gate::OR, x: a, y: b, z: 0 }),
+            Known::Unknown => made::append(
+                gates,
+                at,
+                Gate {
+                    kind: Gate::OR,
+                    x: a,
+                    y: b,
+                    z: 0,
+                },
+            ),
         },
     }
 }
@@ -70,7 +115,16 @@ pub fn xnor_bit(gates: &mut [u32], at: At, a: u32, b: u32) -> Made
             Known::True => Made { bit: a, at },
             Known::False => not_bit(gates, at, a),
             Known::Unknown => {
-                let half = made::append(gates, at, Gate { kind: Gate::RESULT_HALF, x: a, y: b, z: 0 });
+                let half = made::append(
+                    gates,
+                    at,
+                    Gate {
+                        kind: Gate::RESULT_HALF,
+                        x: a,
+                        y: b,
+                        z: 0,
+                    },
+                );
                 not_bit(gates, half.at, half.bit)
             }
         },

@@ -1,6 +1,6 @@
 // Operations on bits: known operands are folded away, what is left is appended to the gate list.
-pub mod made;
-pub mod fold;
 pub mod adder;
 pub mod choice;
+pub mod fold;
 pub mod given;
+pub mod made;

@@ -1,5 +1,5 @@
 -- What a case by what is known of a bit comes to.
-use mathlib.Core.Path.{_≡_, refl}
+use mathlib.Core.Path.{_≡_, refl, sym, _∙_}
 use mathlib.Core.Bool.{Bool, true, false}
 use Prim.Native.Nat.{ℕ, zero, suc, _≤_, _<_}
 use native.Mathlib.Omega.{arith}
@@ -46,3 +46,16 @@ module _ {A : Type 0} (k : Known) (b : ℕ) (x y z : A) (e : k ≡ knownOf b) wh
   pub case-unknown : k ≡ Unknown → z ≡ byKnown (knownOf b) x y z
   unfolding byKnown
   case-unknown h = rw (← e, h)
+
+by-name : (k : Known) → byKnown k False True Unknown ≡ k
+unfolding byKnown
+by-name False = refl
+by-name True = refl
+by-name Unknown = refl
+
+-- a bit of which nothing is known is no constant
+pub told-unknown : (k : Known) (b : ℕ) → k ≡ knownOf b → k ≡ Unknown → 2 ≤ b
+told-unknown k b e h =
+    by-known (λ c. c ≡ Unknown → 2 ≤ b) b False True Unknown
+    (λ p q. absurd (let z : _≡_ {A = ℕ} 0 1 = cc in omega arith)) (λ p q. absurd (let z : _≡_ {A = ℕ} 0 1 = cc in omega arith)) (λ p q. p)
+    (by-name (knownOf b) ∙ (sym e ∙ h))

@@ -249,9 +249,10 @@ pub each-good : (l : List ℕ) → listFault l ≡ Done → (2 ≤ records l) ×
 unfolding listFault
 each-good l e =
     let p = left (wholeRecords l && leb 2 (records l)) _ (GateList 0) refl e in
-    let q = right (ltb (first (records l) (faulty l)) (records l)) (GateList (first (records l) (faulty l))) Done refl (p .1) in
-    (leb-true 2 (records l) (both (wholeRecords l) (leb 2 (records l)) (p .0) .1),
-    λ j h. first-below (faulty l) (records l) j (omega (arith, ltb-false (first (records l) (faulty l)) (records l) (q .0))))
+    let q = right (ltb (first (records l) (faulty l)) (records l)) (GateList (first (records l) (faulty l))) Done refl (p .1) in (
+      leb-true 2 (records l) (both (wholeRecords l) (leb 2 (records l)) (p .0) .1),
+      λ j h. first-below (faulty l) (records l) j (omega (arith, ltb-false (first (records l) (faulty l)) (records l) (q .0))),
+    )
 
 -- a net all of whose records are good passes the check, as the list of its used part
 pub passes : (l : List ℕ) → wholeRecords l ≡ true → 2 ≤ records l → ((j : ℕ) → j < records l → faulty l j ≡ false) → listFault l ≡ Done

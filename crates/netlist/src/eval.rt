@@ -5,10 +5,10 @@ ghost use lib.ListN.{length};
 ghost use Rattle.loops.specs.Loop.{first, iter};
 ghost use Rattle.netlist.specs.Record.{Room, records};
 ghost use Rattle.netlist.specs.Eval.{truth, gateValue, evalStep, outOfRange, run, evalSound, evalGates};
-use crate::record;
-use crate::record::Gate;
 use crate::check;
 use crate::check::Answer;
+use crate::record;
+use crate::record::Gate;
 
 fn truth_at(values: &[u8], i: u32) -> bool
     ensures { λ r. ⌜ r ≡ truth (now (values .entry)) i ⌝ }

@@ -6,18 +6,31 @@ use crate::record::Gate;
 
 impl Gate {
     pub const CONST_FALSE: u32 = 0;
+
     pub const CONST_TRUE: u32 = 1;
+
     pub const INPUT_BIT: u32 = 2;
+
     pub const NOT: u32 = 3;
+
     pub const AND: u32 = 4;
+
     pub const NAND: u32 = 5;
+
     pub const OR: u32 = 6;
+
     pub const MATRIARCH1: u32 = 7;
+
     pub const CARRY_HALF: u32 = 8;
+
     pub const RESULT_HALF: u32 = 9;
+
     pub const CARRY_FULL: u32 = 10;
+
     pub const RESULT_FULL: u32 = 11;
+
     pub const QUOTIENT: u32 = 12;
+
     pub const REMAINDER: u32 = 13;
 
     // Given from outside, and not by its operands.

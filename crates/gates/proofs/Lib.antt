@@ -1,0 +1,7 @@
+pub mod Laws
+pub mod FoldLaws
+pub mod AdderLaws
+pub mod ChoiceLaws
+pub mod GivenLaws
+pub mod FormedLaws
+pub mod Paths
