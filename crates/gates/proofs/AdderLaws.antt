@@ -13,10 +13,10 @@ use Rattle.netlist.specs.Bit.{isKnown}
 use Rattle.netlist.proofs.BitLaws.{known-less, unknown-least}
 use Rattle.gates.specs.Made.{MadeBit, MadeSum, added, gateResultHalf}
 use Rattle.gates.specs.Fold.{notBit}
-use Rattle.gates.specs.Adder.{twoKnown, oneKnown, noneKnown, adderBit}
+use Rattle.gates.specs.Adder.{twoKnown, oneKnown, noneKnown, adderBit, adderCost}
 use Rattle.gates.specs.Law.{Formed, BitLaw, SumLaw, In2, Kn2, In3, Kn3, total3}
 use Rattle.gates.proofs.Laws.{ext-refl, keeps, then-law, pair-law, sum-map, bit-known}
-use Rattle.gates.proofs.FoldLaws.{not-law, or-law, carry-half, result-half, carry-full, result-full}
+use Rattle.gates.proofs.FoldLaws.{&&-false, not-one, or-law, carry-half, result-half, carry-full, result-full}
 
 bit-not : (b : Bool) → bit (not b) + bit b ≡ 1
 bit-not true = refl
@@ -54,7 +54,7 @@ two-law s a b t ka kb =
       formed = λ room i f. (f, i .2, i .0);
       known = λ k. (refl, k .2, k .0);
     })
-    (λ h. let n : BitLaw s (t < s .n) (t < 2) (λ e. not (e t)) 1 (notBit s t) = not-law s t in
+    (λ h. let n : BitLaw s (t < s .n) (t < 2) (λ e. not (e t)) 1 (notBit s t) = not-one s t in
     record {
       ext = n .ext;
       value = λ e o.
@@ -79,7 +79,7 @@ one-law s k a b hk ha hb =
     (λ h. sum-map (λ i. i) (λ i. i) (λ e. refl) (omega arith)
     (pair-law (total3 k a b) r (λ i l. omega arith) (λ q. q) (carry-half _ a ha b hb)
     (λ e o. omega (arith, half-0 (e a) (e b), bit-known s e k o hk, eqb-true k 0 h))))
-    (λ h. pair-law (total3 k a b) (then-law (λ e. not (xor (e a) (e b))) r (λ i l q. q) (λ q w. w) (not-law _ _) (λ e q. ap not q))
+    (λ h. pair-law (total3 k a b) (then-law (λ e. not (xor (e a) (e b))) r (λ i l q. q) (λ q w. w) (not-one _ _) (λ e q. ap not q))
     (λ i l. omega arith) (λ q. q) (or-law _ a b)
     (λ e o. omega (arith, half-1 (e a) (e b), bit-known s e k o hk, eqb-false k 0 h)))
   where
@@ -89,22 +89,44 @@ one-law s k a b hk ha hb =
     r : BitLaw s (In2 s a b) (Kn2 a b) (λ e. xor (e a) (e b)) 1 (added s (gateResultHalf a b))
     r = result-half s a ha b hb
 
-pub adder-law : (s : Net) (l r c : ℕ) → SumLaw s (In3 s l r c) (Kn3 l r c) (total3 l r c) 3 (adderBit s l r c)
+-- at least one gate, three unless left and right are known
+pub adder-cost : (l r : ℕ) → (1 ≤ adderCost l r) × (adderCost l r ≤ 3)
+unfolding adderCost
+adder-cost l r = by-pick (λ k. (1 ≤ k) × (k ≤ 3)) (isKnown l && isKnown r) 1 3 (λ h. omega arith) (λ h. omega arith)
+
+pub cost-left : (l r : ℕ) → isKnown l ≡ false → adderCost l r ≡ 3
+unfolding adderCost pick
+cost-left l r h = rw h
+
+pub cost-right : (l r : ℕ) → isKnown r ≡ false → adderCost l r ≡ 3
+unfolding adderCost pick
+cost-right l r h = rw (h, &&-false)
+
+pub adder-law : (s : Net) (l r c : ℕ) → SumLaw s (In3 s l r c) (Kn3 l r c) (total3 l r c) (adderCost l r) (adderBit s l r c)
 unfolding adderBit
 adder-law s l r c =
     by-pick P (isKnown l) _ _
     (λ kl. by-pick P (isKnown r) _ _
-    (λ kr. sum-map (λ i. i) (λ i. i) (λ e. refl) (omega arith) (two-law s l r c (known-less l kl) (known-less r kr)))
+    (λ kr. sum-map (λ i. i) (λ i. i) (λ e. refl) one (two-law s l r c (known-less l kl) (known-less r kr)))
     (λ ur. by-pick P (isKnown c) _ _
-    (λ kc. sum-map (λ i. (i .0, i .2, i .1)) (λ i. (i .0, i .2, i .1)) (λ e. omega arith) (omega arith) (two-law s l c r (known-less l kl) (known-less c kc)))
-    (λ uc. sum-map (λ i. (i .1, i .2)) (λ i. (i .1, i .2)) (λ e. refl) (omega arith) (one-law s l r c (known-less l kl) (unknown-least r ur) (unknown-least c uc)))))
+    (λ kc. sum-map (λ i. (i .0, i .2, i .1)) (λ i. (i .0, i .2, i .1)) (λ e. omega arith) one (two-law s l c r (known-less l kl) (known-less c kc)))
+    (λ uc. sum-map (λ i. (i .1, i .2)) (λ i. (i .1, i .2)) (λ e. refl) (right ur) (one-law s l r c (known-less l kl) (unknown-least r ur) (unknown-least c uc)))))
     (λ ul. by-pick P (isKnown r) _ _
     (λ kr. by-pick P (isKnown c) _ _
-    (λ kc. sum-map (λ i. (i .1, i .2, i .0)) (λ i. (i .1, i .2, i .0)) (λ e. omega arith) (omega arith) (two-law s r c l (known-less r kr) (known-less c kc)))
-    (λ uc. sum-map (λ i. (i .0, i .2)) (λ i. (i .0, i .2)) (λ e. omega arith) (omega arith) (one-law s r l c (known-less r kr) (unknown-least l ul) (unknown-least c uc))))
+    (λ kc. sum-map (λ i. (i .1, i .2, i .0)) (λ i. (i .1, i .2, i .0)) (λ e. omega arith) one (two-law s r c l (known-less r kr) (known-less c kc)))
+    (λ uc. sum-map (λ i. (i .0, i .2)) (λ i. (i .0, i .2)) (λ e. omega arith) (left ul) (one-law s r l c (known-less r kr) (unknown-least l ul) (unknown-least c uc))))
     (λ ur. by-pick P (isKnown c) _ _
-    (λ kc. sum-map (λ i. (i .0, i .1)) (λ i. (i .0, i .1)) (λ e. omega arith) (omega arith) (one-law s c l r (known-less c kc) (unknown-least l ul) (unknown-least r ur)))
-    (λ uc. sum-map (λ i. i) (λ i. i) (λ e. refl) (omega arith) (none-law s l r c (unknown-least l ul) (unknown-least r ur) (unknown-least c uc)))))
+    (λ kc. sum-map (λ i. (i .0, i .1)) (λ i. (i .0, i .1)) (λ e. omega arith) (left ul) (one-law s c l r (known-less c kc) (unknown-least l ul) (unknown-least r ur)))
+    (λ uc. sum-map (λ i. i) (λ i. i) (λ e. refl) (omega (arith, left ul)) (none-law s l r c (unknown-least l ul) (unknown-least r ur) (unknown-least c uc)))))
   where
     P : MadeSum → Type 0
-    P m = SumLaw s (In3 s l r c) (Kn3 l r c) (total3 l r c) 3 m
+    P m = SumLaw s (In3 s l r c) (Kn3 l r c) (total3 l r c) (adderCost l r) m
+
+    one : 1 ≤ adderCost l r
+    one = adder-cost l r .0
+
+    left : isKnown l ≡ false → 3 ≤ adderCost l r
+    left h = omega (arith, cost-left l r h)
+
+    right : isKnown r ≡ false → 3 ≤ adderCost l r
+    right h = omega (arith, cost-right l r h)

@@ -14,7 +14,7 @@ use Rattle.gates.specs.Made.{MadeBit, kept, gateMatriarch1}
 use Rattle.gates.specs.Choice.{trueSide, falseSide, bothSides, choiceBit, muxBit}
 use Rattle.gates.specs.Law.{Grows, BitLaw, In2, Kn2, In3, Kn3}
 use Rattle.gates.proofs.Laws.{grows-refl, grows-added, kept-law, bit-map, join-law}
-use Rattle.gates.proofs.FoldLaws.{&&-false, &&-true, not-law, and-law, or-law, matriarch-law}
+use Rattle.gates.proofs.FoldLaws.{&&-false, &&-true, not-one, and-law, or-law, matriarch-law}
 
 &&-comm : (a b : Bool) → (a && b) ≡ (b && a)
 &&-comm true true = refl
@@ -38,7 +38,7 @@ unfolding falseSide
 false-law s c f hc =
     by-known P f _ _ _
     (λ h. kept-law 1 0 (λ e o. simp (h, o .low, &&-false)) (λ i l. omega arith) (λ k. omega arith))
-    (λ h. bit-map (λ i. i .0) (λ k. k .0) (λ e o. simp (h, o .high, &&-true)) (omega arith) (not-law s c))
+    (λ h. bit-map (λ i. i .0) (λ k. k .0) (λ e o. simp (h, o .high, &&-true)) (omega arith) (not-one s c))
     (λ h. matriarch-law s c hc f h)
   where
     P : MadeBit → Type 0
@@ -51,7 +51,7 @@ true-grows s c t = by-known (λ (m : MadeBit). Grows s (m .net) 1) t _ _ _ (λ h
 
 pub false-grows : (s : Net) (c f : ℕ) → Grows s (falseSide s c f .net) 1
 unfolding falseSide
-false-grows s c f = by-known (λ (m : MadeBit). Grows s (m .net) 1) f _ _ _ (λ h. grows-refl s 1) (λ h. not-law s c .ext .grows) (λ h. grows-added s (gateMatriarch1 c f))
+false-grows s c f = by-known (λ (m : MadeBit). Grows s (m .net) 1) f _ _ _ (λ h. grows-refl s 1) (λ h. not-one s c .ext .grows) (λ h. grows-added s (gateMatriarch1 c f))
 
 sides : (c t f : Bool) → ((c && t) || (not c && f)) ≡ pick c t f
 unfolding pick
@@ -98,7 +98,7 @@ choice-law s c t f hc =
     (λ w.
     let h : t ≡ 0 = omega (arith, eqb-false t 1 w) in
     let g : f ≡ 1 = omega (arith, eqb-false t f u) in
-    bit-map (λ i. i .0) (λ k. k .0) (λ e o. simp (h, g, o .low, o .high) (sym (pick-not (e c)))) (omega arith) (not-law s c))))
+    bit-map (λ i. i .0) (λ k. k .0) (λ e o. simp (h, g, o .low, o .high) (sym (pick-not (e c)))) (omega arith) (not-one s c))))
     (λ k. both-law s c t f hc)
   where
     P : MadeBit → Type 0

@@ -4,12 +4,14 @@ use mathlib.Core.Bool.{Bool, true, false, not, _&&_, _||_}
 use Prim.Native.Nat.{ℕ, _+_, _≤_, _<_}
 use native.Mathlib.Omega.{arith}
 use Rattle.loops.specs.Loop.{pick}
+use Rattle.loops.proofs.Loop.{by-pick}
 use Rattle.netlist.specs.Record.{gate}
 use Rattle.netlist.specs.Kind.{xor, maj, free, usesY, usesZ, valueOf}
 use Rattle.netlist.specs.Net.{Net, Assign, Says, Obeys}
-use Rattle.netlist.proofs.BitLaws.{by-known}
+use Rattle.netlist.specs.Bit.{isKnown}
+use Rattle.netlist.proofs.BitLaws.{by-known, least-unknown}
 use Rattle.gates.specs.Made.{MadeBit, kept, added, gateNot, gateAnd, gateOr, gateMatriarch1, gateCarryHalf, gateResultHalf, gateCarryFull, gateResultFull}
-use Rattle.gates.specs.Fold.{notBit, andBit, orBit, xnorBit}
+use Rattle.gates.specs.Fold.{notBit, andBit, orBit, xnorBit, notCost, xnorCost}
 use Rattle.gates.specs.Law.{BitLaw, In2, Kn2, In3, Kn3}
 use Rattle.gates.proofs.Laws.{kept-law, added-law, good-one, good-two, good-three, bit-map, then-law}
 
@@ -88,16 +90,37 @@ false-xnor : (b : Bool) → not (xor false b) ≡ not b
 false-xnor true = refl
 false-xnor false = refl
 
-pub not-law : (s : Net) (a : ℕ) → BitLaw s (a < s .n) (a < 2) (λ e. not (e a)) 1 (notBit s a)
+-- a Not makes no gate where its operand is known, an Xnor at most one where its left operand is
+pub not-cost : (a : ℕ) → notCost a ≤ 1
+unfolding notCost
+not-cost a = by-pick (λ k. k ≤ 1) (isKnown a) 0 1 (λ h. omega arith) (λ h. omega arith)
+
+pub not-unknown : (a : ℕ) → 2 ≤ a → notCost a ≡ 1
+unfolding notCost pick
+not-unknown a h = rw (least-unknown a h)
+
+pub xnor-cost : (a : ℕ) → (1 ≤ xnorCost a) × (xnorCost a ≤ 2)
+unfolding xnorCost
+xnor-cost a = by-pick (λ k. (1 ≤ k) × (k ≤ 2)) (isKnown a) 1 2 (λ h. omega arith) (λ h. omega arith)
+
+pub xnor-unknown : (a : ℕ) → 2 ≤ a → xnorCost a ≡ 2
+unfolding xnorCost pick
+xnor-unknown a h = rw (least-unknown a h)
+
+pub not-law : (s : Net) (a : ℕ) → BitLaw s (a < s .n) (a < 2) (λ e. not (e a)) (notCost a) (notBit s a)
 unfolding notBit
 not-law s a =
     by-known P a _ _ _
-    (λ h. kept-law 1 1 (λ e o. simp (h, o .low, o .high)) (λ i l. omega arith) (λ k. omega arith))
-    (λ h. kept-law 1 0 (λ e o. simp (h, o .low, o .high)) (λ i l. omega arith) (λ k. omega arith))
-    (λ h. gate-not s a h)
+    (λ h. kept-law (notCost a) 1 (λ e o. simp (h, o .low, o .high)) (λ i l. omega arith) (λ k. omega arith))
+    (λ h. kept-law (notCost a) 0 (λ e o. simp (h, o .low, o .high)) (λ i l. omega arith) (λ k. omega arith))
+    (λ h. rw (not-unknown a h) (gate-not s a h))
   where
     P : MadeBit → Type 0
-    P m = BitLaw s (a < s .n) (a < 2) (λ e. not (e a)) 1 m
+    P m = BitLaw s (a < s .n) (a < 2) (λ e. not (e a)) (notCost a) m
+
+-- where one gate is allowed
+pub not-one : (s : Net) (a : ℕ) → BitLaw s (a < s .n) (a < 2) (λ e. not (e a)) 1 (notBit s a)
+not-one s a = bit-map (λ i. i) (λ k. k) (λ e o. refl) (not-cost a) (not-law s a)
 
 pub and-law : (s : Net) (a b : ℕ) → BitLaw s (In2 s a b) (Kn2 a b) (λ e. e a && e b) 1 (andBit s a b)
 unfolding andBit
@@ -127,18 +150,17 @@ or-law s a b =
     P : MadeBit → Type 0
     P m = BitLaw s (In2 s a b) (Kn2 a b) (λ e. e a || e b) 1 m
 
--- an Xnor makes at most two gates, and one where its left side is known: k is how many are allowed
-pub xnor-law : (s : Net) (a b k : ℕ) → 1 ≤ k → (2 ≤ a → 2 ≤ k) → BitLaw s (In2 s a b) (Kn2 a b) (λ e. not (xor (e a) (e b))) k (xnorBit s a b)
+pub xnor-law : (s : Net) (a b : ℕ) → BitLaw s (In2 s a b) (Kn2 a b) (λ e. not (xor (e a) (e b))) (xnorCost a) (xnorBit s a b)
 unfolding xnorBit
-xnor-law s a b k h1 h2 =
+xnor-law s a b =
     by-known P a _ _ _
-    (λ h. bit-map (λ i. i .1) (λ k. k .1) (λ e o. simp (h, o .low, false-xnor)) h1 (not-law s b))
-    (λ h. kept-law k b (λ e o. simp (h, o .high, true-xnor)) (λ i l. i .1) (λ k. k .1))
+    (λ h. bit-map (λ i. i .1) (λ k. k .1) (λ e o. simp (h, o .low, false-xnor)) (xnor-cost a .0) (not-one s b))
+    (λ h. kept-law (xnorCost a) b (λ e o. simp (h, o .high, true-xnor)) (λ i l. i .1) (λ k. k .1))
     (λ ha. by-known P b _ _ _
-    (λ h. bit-map (λ i. i .0) (λ k. k .0) (λ e o. simp (h, o .low, xnor-false)) h1 (not-law s a))
-    (λ h. kept-law k a (λ e o. simp (h, o .high, xnor-true)) (λ i l. i .0) (λ k. k .0))
-    (λ hb. bit-map (λ i. i) (λ k. k) (λ e o. refl) (h2 ha)
-    (then-law (λ e. not (xor (e a) (e b))) (result-half s a ha b hb) (λ i l q. q) (λ q w. w) (not-law _ _) (λ e q. ap not q))))
+    (λ h. bit-map (λ i. i .0) (λ k. k .0) (λ e o. simp (h, o .low, xnor-false)) (xnor-cost a .0) (not-one s a))
+    (λ h. kept-law (xnorCost a) a (λ e o. simp (h, o .high, xnor-true)) (λ i l. i .0) (λ k. k .0))
+    (λ hb. rw (xnor-unknown a ha)
+    (then-law (λ e. not (xor (e a) (e b))) (result-half s a ha b hb) (λ i l q. q) (λ q w. w) (not-one _ _) (λ e q. ap not q))))
   where
     P : MadeBit → Type 0
-    P m = BitLaw s (In2 s a b) (Kn2 a b) (λ e. not (xor (e a) (e b))) k m
+    P m = BitLaw s (In2 s a b) (Kn2 a b) (λ e. not (xor (e a) (e b))) (xnorCost a) m

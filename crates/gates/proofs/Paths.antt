@@ -20,7 +20,7 @@ use Rattle.gates.specs.Adder.{summed, carried, twoKnown, oneKnown, noneK
 use Rattle.gates.specs.Choice.{trueSide, falseSide, bothSides, choiceBit, muxBit}
 use Rattle.gates.specs.Law.{Ext, Grows}
 use Rattle.gates.proofs.Laws.{grows-added}
-use Rattle.gates.proofs.FoldLaws.{not-law}
+use Rattle.gates.proofs.FoldLaws.{not-one}
 use Rattle.gates.proofs.ChoiceLaws.{true-grows, false-grows}
 
 pub append-path : (g g′ : List ℕ) (at : At) (d : Gate) (b : ℕ) → g′ ≡ put g (at .n) d → b ≡ at .n → madeOf g′ (record { n = at .n + 1 }) b ≡ added (netOf g at) d
@@ -35,7 +35,7 @@ pub most-added : (s : Net) (g′ : List ℕ) (n′ : At) (b : ℕ) (d : Gate) �
 most-added s g′ n′ b d e = most s g′ n′ b 1 (added s d) (grows-added s d) e
 
 pub most-not : (s : Net) (g′ : List ℕ) (n′ : At) (b a : ℕ) → madeOf g′ n′ b ≡ notBit s a → n′ .n ≤ s .n + 1
-most-not s g′ n′ b a e = most s g′ n′ b 1 (notBit s a) (not-law s a .ext .grows) e
+most-not s g′ n′ b a e = most s g′ n′ b 1 (notBit s a) (not-one s a .ext .grows) e
 
 -- Not, And, Or, Xnor: m is what the code gives; k and j are what is known of the operands
 module _ (s : Net) (m : MadeBit) (k : Known) (a : ℕ) (e : k ≡ knownOf a) where

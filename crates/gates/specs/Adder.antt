@@ -1,9 +1,10 @@
 -- Adder on (left, right, carry), result first, then carry.
+use mathlib.Core.Bool.{_&&_}
 use Prim.Native.Nat.{ℕ}
 use lib.Dec.{eqb}
 use Rattle.loops.specs.Loop.{pick}
 use Rattle.netlist.specs.Net.{Net}
-use Rattle.netlist.specs.Bit.{isKnown, knownOf, byKnown}
+use Rattle.netlist.specs.Bit.{isKnown}
 use Rattle.gates.specs.Made.{MadeBit, MadeSum, kept, added, gateCarryHalf, gateResultHalf, gateCarryFull, gateResultFull}
 use Rattle.gates.specs.Fold.{notBit, orBit}
 
@@ -40,3 +41,7 @@ adderBit s l r c =
     (pick (isKnown r)
     (pick (isKnown c) (twoKnown s r c l) (oneKnown s r l c))
     (pick (isKnown c) (oneKnown s c l r) (noneKnown s l r c)))
+
+-- how many gates it makes at most, by its left and right bits: with both known, the Not of the carry
+unfoldable pub adderCost : ℕ → ℕ → ℕ
+adderCost l r = pick (isKnown l && isKnown r) 1 3

@@ -1,10 +1,9 @@
 -- Not, And, Or fold a known operand away. Xnor: known true gives the other bit, known false its Not; none known gives ResultHalf, then Not.
-use mathlib.Core.List.{List}
-use Prim.Native.Nat.{ℕ, _≤_}
+use Prim.Native.Nat.{ℕ}
+use Rattle.loops.specs.Loop.{pick}
 use Rattle.netlist.specs.Net.{Net}
-use Rattle.netlist.specs.Bit.{knownOf, byKnown}
-use Rattle.gates.specs.declared.made.At.{At}
-use Rattle.gates.specs.Made.{MadeBit, kept, added, gateNot, gateAnd, gateOr, gateResultHalf, Fits}
+use Rattle.netlist.specs.Bit.{isKnown, knownOf, byKnown}
+use Rattle.gates.specs.Made.{MadeBit, kept, added, gateNot, gateAnd, gateOr, gateResultHalf}
 
 unfoldable pub notBit : Net → ℕ → MadeBit
 notBit s a = byKnown (knownOf a) (kept s 1) (kept s 0) (added s (gateNot a))
@@ -28,6 +27,9 @@ xnorBit s a b =
     (byKnown (knownOf b) (notBit s a) (kept s a)
     (notBit (r .net) (r .bit)))
 
--- one gate is enough for an Xnor whose left side is known
-abbrev pub XnorFits : List ℕ → At → ℕ → Type 0
-XnorFits l at a = Fits l at 1 × (2 ≤ a → Fits l at 2)
+-- how many gates are made at most: a known operand makes none for a Not, one for an Xnor
+unfoldable pub notCost : ℕ → ℕ
+notCost a = pick (isKnown a) 0 1
+
+unfoldable pub xnorCost : ℕ → ℕ
+xnorCost a = pick (isKnown a) 1 2

@@ -2,7 +2,7 @@
 ghost use mathlib.Core.Path.{_≡_};
 ghost use Prim.Native.Nat.{ℕ, _+_};
 ghost use Rattle.gates.specs.Made.{netOf, madeOf, sumOf, Fits};
-ghost use Rattle.gates.specs.Adder.{twoKnown, oneKnown, noneKnown, adderBit};
+ghost use Rattle.gates.specs.Adder.{twoKnown, oneKnown, noneKnown, adderBit, adderCost};
 use crate::fold;
 use crate::made;
 use crate::made::At;
@@ -110,7 +110,7 @@ fn none_known(gates: &mut [u32], at: At, a: u32, b: u32, c: u32) -> Sum
 }
 
 pub fn adder_bit(gates: &mut [u32], at: At, left: u32, right: u32, carry: u32) -> Sum
-    requires { ⌜ Fits (now gates) at 3 ⌝ }
+    requires { ⌜ Fits (now gates) at (adderCost left right) ⌝ }
     ensures { λ m. ⌜ sumOf (now (gates .exit)) (m .at) (m .sum) (m .carry) ≡ adderBit (netOf (now (gates .entry)) at) left right carry ⌝ }
 {
     if Gate::is_known(left) {

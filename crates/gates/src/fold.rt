@@ -1,9 +1,8 @@
 // Not, And, Or and Xnor: a known operand is folded away.
 ghost use mathlib.Core.Path.{_≡_};
 ghost use Prim.Native.Nat.{ℕ, _+_};
-ghost use Rattle.netlist.specs.Bit.{isKnown};
-ghost use Rattle.gates.specs.Made.{netOf, madeOf, Fits, gateNot, gateAnd, gateOr, gateResultHalf};
-ghost use Rattle.gates.specs.Fold.{notBit, andBit, orBit, xnorBit, XnorFits};
+ghost use Rattle.gates.specs.Made.{netOf, madeOf, Fits};
+ghost use Rattle.gates.specs.Fold.{notBit, andBit, orBit, xnorBit, notCost, xnorCost};
 use crate::made;
 use crate::made::At;
 use crate::made::Made;
@@ -11,7 +10,7 @@ use netlist::bit::Known;
 use netlist::record::Gate;
 
 pub fn not_bit(gates: &mut [u32], at: At, a: u32) -> Made
-    requires { ⌜ Fits (now gates) at 1 ⌝ }
+    requires { ⌜ Fits (now gates) at (notCost a) ⌝ }
     ensures { λ r. ⌜ madeOf (now (gates .exit)) (r .at) (r .bit) ≡ notBit (netOf (now (gates .entry)) at) a ⌝ }
 {
     let operand = Gate::of(a);
@@ -103,7 +102,7 @@ pub fn or_bit(gates: &mut [u32], at: At, a: u32, b: u32) -> Made
 
 // Not of the other where one is known false, two gates where none is known.
 pub fn xnor_bit(gates: &mut [u32], at: At, a: u32, b: u32) -> Made
-    requires { ⌜ XnorFits (now gates) at a ⌝ }
+    requires { ⌜ Fits (now gates) at (xnorCost a) ⌝ }
     ensures { λ r. ⌜ madeOf (now (gates .exit)) (r .at) (r .bit) ≡ xnorBit (netOf (now (gates .entry)) at) a b ⌝ }
 {
     let left = Gate::of(a);

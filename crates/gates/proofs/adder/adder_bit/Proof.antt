@@ -1,3 +1,6 @@
+use mathlib.Core.Path.{sym, _∙_}
+use native.Mathlib.Omega.{arith}
+use Rattle.gates.proofs.AdderLaws.{adder-cost, cost-left, cost-right}
 use Rattle.gates.proofs.Paths.{adder-lr, adder-lc, adder-l, adder-rc, adder-r, adder-c, adder-none}
 use borrow.Author.Needs.{needs}
 use Rattle.gates.proofs.adder.adder_bit.Statement.{statement}
@@ -16,7 +19,7 @@ is-known-requires-2 : tie.Need-is-known-requires-2
 is-known-requires-2 c κs = search needs
 
 two-known-requires : tie.Need-two-known-requires
-two-known-requires c κs = search needs
+two-known-requires c κs = omega (arith, adder-cost (c .before .before .before .before .before .before .args .left) (c .before .before .before .before .before .before .args .right))
 
 same-length : tie.Need-same-length
 same-length c = search needs
@@ -28,7 +31,7 @@ is-known-requires-3 : tie.Need-is-known-requires-3
 is-known-requires-3 c κs = search needs
 
 two-known-requires-2 : tie.Need-two-known-requires-2
-two-known-requires-2 c κs = search needs
+two-known-requires-2 c κs = omega (arith, adder-cost (c .before .before .before .before .before .before .before .before .args .left) (c .before .before .before .before .before .before .before .before .args .right))
 
 same-length-2 : tie.Need-same-length-2
 same-length-2 c = search needs
@@ -37,7 +40,7 @@ returns-2 : tie.Need-returns-2
 returns-2 c = search (needs, adder-lr, adder-lc, adder-l, adder-rc, adder-r, adder-c, adder-none)
 
 one-known-requires : tie.Need-one-known-requires
-one-known-requires c κs = search needs
+one-known-requires c κs = omega (arith, cost-right (c .before .before .before .before .before .before .before .before .args .left) (c .before .before .before .before .before .before .before .before .args .right) (sym (c .before .before .before .before .is-known2 .ensures) ∙ c .before .before .before .if2 .left))
 
 same-length-3 : tie.Need-same-length-3
 same-length-3 c = search needs
@@ -52,7 +55,7 @@ is-known-requires-5 : tie.Need-is-known-requires-5
 is-known-requires-5 c κs = search needs
 
 two-known-requires-3 : tie.Need-two-known-requires-3
-two-known-requires-3 c κs = search needs
+two-known-requires-3 c κs = omega (arith, adder-cost (c .before .before .before .before .before .before .before .before .args .left) (c .before .before .before .before .before .before .before .before .args .right))
 
 same-length-4 : tie.Need-same-length-4
 same-length-4 c = search needs
@@ -61,7 +64,7 @@ returns-4 : tie.Need-returns-4
 returns-4 c = search (needs, adder-lr, adder-lc, adder-l, adder-rc, adder-r, adder-c, adder-none)
 
 one-known-requires-2 : tie.Need-one-known-requires-2
-one-known-requires-2 c κs = search needs
+one-known-requires-2 c κs = omega (arith, cost-left (c .before .before .before .before .before .before .before .before .args .left) (c .before .before .before .before .before .before .before .before .args .right) (sym (c .before .before .before .before .before .before .is-known .ensures) ∙ c .before .before .before .before .before .if1 .left))
 
 same-length-5 : tie.Need-same-length-5
 same-length-5 c = search needs
@@ -73,7 +76,7 @@ is-known-requires-6 : tie.Need-is-known-requires-6
 is-known-requires-6 c κs = search needs
 
 one-known-requires-3 : tie.Need-one-known-requires-3
-one-known-requires-3 c κs = search needs
+one-known-requires-3 c κs = omega (arith, cost-left (c .before .before .before .before .before .before .before .before .args .left) (c .before .before .before .before .before .before .before .before .args .right) (sym (c .before .before .before .before .before .before .is-known .ensures) ∙ c .before .before .before .before .before .if1 .left))
 
 same-length-6 : tie.Need-same-length-6
 same-length-6 c = search needs
@@ -82,7 +85,7 @@ returns-6 : tie.Need-returns-6
 returns-6 c = search (needs, adder-lr, adder-lc, adder-l, adder-rc, adder-r, adder-c, adder-none)
 
 none-known-requires : tie.Need-none-known-requires
-none-known-requires c κs = search needs
+none-known-requires c κs = omega (arith, cost-left (c .before .before .before .before .before .before .before .before .args .left) (c .before .before .before .before .before .before .before .before .args .right) (sym (c .before .before .before .before .before .before .is-known .ensures) ∙ c .before .before .before .before .before .if1 .left))
 
 same-length-7 : tie.Need-same-length-7
 same-length-7 c = search needs

@@ -1,3 +1,4 @@
+use Rattle.gates.proofs.FoldLaws.{not-cost}
 use native.Mathlib.Omega.{arith}
 use Rattle.gates.proofs.Paths.{most-added, most-not, one-low, one-high}
 use borrow.Author.Needs.{needs}
@@ -26,7 +27,7 @@ returns : tie.Need-returns
 returns c = search (needs, one-low, one-high)
 
 not-bit-requires : tie.Need-not-bit-requires
-not-bit-requires c κs = omega (arith, most-added)
+not-bit-requires c κs = omega (arith, most-added, not-cost (c .before .before .before .before .before .append .result .bit))
 
 or-bit-requires : tie.Need-or-bit-requires
 or-bit-requires c κs = omega (arith, most-added, most-not)

@@ -1,3 +1,5 @@
+use native.Mathlib.Omega.{arith}
+use Rattle.gates.proofs.FoldLaws.{not-cost}
 use Rattle.gates.proofs.Paths.{two-equal, two-other}
 use borrow.Author.Needs.{needs}
 use Rattle.gates.proofs.adder.two_known.Statement.{statement}
@@ -10,7 +12,7 @@ returns : tie.Need-returns
 returns c = search (needs, two-equal, two-other)
 
 not-bit-requires : tie.Need-not-bit-requires
-not-bit-requires c κs = search needs
+not-bit-requires c κs = omega (arith, not-cost (c .before .before .before .args .third))
 
 same-length : tie.Need-same-length
 same-length c = search needs

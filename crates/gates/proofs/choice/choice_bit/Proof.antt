@@ -1,3 +1,5 @@
+use native.Mathlib.Omega.{arith}
+use Rattle.gates.proofs.FoldLaws.{not-cost}
 use Rattle.gates.proofs.Paths.{choice-equal, choice-cond, choice-not, choice-both}
 use borrow.Author.Needs.{needs}
 use Rattle.gates.proofs.choice.choice_bit.Statement.{statement}
@@ -25,7 +27,7 @@ returns-2 : tie.Need-returns-2
 returns-2 c = search (needs, choice-equal, choice-cond, choice-not, choice-both)
 
 not-bit-requires : tie.Need-not-bit-requires
-not-bit-requires c κs = search needs
+not-bit-requires c κs = omega (arith, not-cost (c .before .before .before .before .before .before .before .before .args .c))
 
 same-length : tie.Need-same-length
 same-length c = search needs

@@ -1,3 +1,5 @@
+use native.Mathlib.Omega.{arith}
+use Rattle.gates.proofs.FoldLaws.{not-cost}
 use Rattle.gates.proofs.Paths.{false-false, false-true, false-unknown}
 use borrow.Author.Needs.{needs}
 use Rattle.gates.proofs.choice.false_side.Statement.{statement}
@@ -22,7 +24,7 @@ enum-told-2 : tie.Need-enum-told-2
 enum-told-2 c = search needs
 
 not-bit-requires : tie.Need-not-bit-requires
-not-bit-requires c κs = search needs
+not-bit-requires c κs = omega (arith, not-cost (c .before .before .before .before .before .args .c))
 
 enum-told-3 : tie.Need-enum-told-3
 enum-told-3 c = search needs

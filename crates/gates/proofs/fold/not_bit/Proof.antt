@@ -1,3 +1,6 @@
+use native.Mathlib.Omega.{arith}
+use Rattle.netlist.proofs.BitLaws.{told-unknown}
+use Rattle.gates.proofs.FoldLaws.{not-unknown as cost-unknown}
 use Rattle.gates.proofs.Paths.{not-false, not-true, not-unknown}
 use borrow.Author.Needs.{needs}
 use Rattle.gates.proofs.fold.not_bit.Statement.{statement}
@@ -27,7 +30,7 @@ enum-told-3 : tie.Need-enum-told-3
 enum-told-3 c = search needs
 
 append-requires : tie.Need-append-requires
-append-requires c κs = search needs
+append-requires c κs = omega (arith, cost-unknown _ (told-unknown _ _ (c .before .before .before .of .ensures) (c .before .enum-told3 .given .1)))
 
 returns : tie.Need-returns
 returns c = search (needs, not-false, not-true, not-unknown)

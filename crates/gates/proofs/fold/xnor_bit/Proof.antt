@@ -1,3 +1,4 @@
+use Rattle.gates.proofs.FoldLaws.{not-cost, xnor-cost, xnor-unknown as cost-unknown}
 use Rattle.netlist.proofs.BitLaws.{told-unknown}
 use native.Mathlib.Omega.{arith}
 use Rattle.gates.proofs.Paths.{most-added, xnor-false, xnor-true, xnor-right-false, xnor-right-true, xnor-unknown}
@@ -23,7 +24,7 @@ enum-told-2 : tie.Need-enum-told-2
 enum-told-2 c = search needs
 
 not-bit-requires : tie.Need-not-bit-requires
-not-bit-requires c κs = search needs
+not-bit-requires c κs = omega (arith, xnor-cost (c .before .before .before .before .before .before .args .a), not-cost (c .before .before .before .before .before .before .args .b))
 
 enum-told-3 : tie.Need-enum-told-3
 enum-told-3 c = search needs
@@ -35,16 +36,16 @@ enum-told-5 : tie.Need-enum-told-5
 enum-told-5 c = search needs
 
 not-bit-requires-2 : tie.Need-not-bit-requires-2
-not-bit-requires-2 c κs = search needs
+not-bit-requires-2 c κs = omega (arith, xnor-cost (c .before .before .before .before .before .before .before .before .args .a), not-cost (c .before .before .before .before .before .before .before .before .args .a))
 
 enum-told-6 : tie.Need-enum-told-6
 enum-told-6 c = search needs
 
 append-requires : tie.Need-append-requires
-append-requires c κs = search needs
+append-requires c κs = omega (arith, xnor-cost (c .before .before .before .before .before .before .before .before .args .a))
 
 not-bit-requires-3 : tie.Need-not-bit-requires-3
-not-bit-requires-3 c κs = let h = c .before .before .before .before .before .before .before .before .before .before .before .before .pre .1 (told-unknown _ _ (c .before .before .before .before .before .before .before .before .before .before .of .ensures) (c .before .before .before .before .before .before .before .enum-told3 .given .1)) in omega (arith, h, most-added)
+not-bit-requires-3 c κs = omega (arith, cost-unknown _ (told-unknown _ _ (c .before .before .before .before .before .before .before .before .before .before .of .ensures) (c .before .before .before .before .before .before .before .enum-told3 .given .1)), not-cost (c .before .before .before .append .result .bit), most-added)
 
 returns : tie.Need-returns
 returns c = search (needs, xnor-false, xnor-true, xnor-right-false, xnor-right-true, xnor-unknown)
