@@ -6,11 +6,11 @@ use native.Mathlib.Omega.{arith}
 use lib.Dec.{eqb}
 use borrow.Author.Tests.{eqb-true, eqb-false}
 use Rattle.loops.specs.Loop.{pick, bit}
-use Rattle.loops.proofs.Loop.{by-pick}
+use Rattle.loops.proofs.Loop.{by-pick, both}
 use Rattle.netlist.specs.Kind.{xor, maj}
 use Rattle.netlist.specs.Net.{Net, Assign, Obeys}
 use Rattle.netlist.specs.Bit.{isKnown}
-use Rattle.netlist.proofs.BitLaws.{known-less, unknown-least}
+use Rattle.netlist.proofs.BitLaws.{known-less, unknown-least, less-known}
 use Rattle.gates.specs.Made.{MadeBit, MadeSum, added, gateResultHalf}
 use Rattle.gates.specs.Fold.{notBit}
 use Rattle.gates.specs.Adder.{twoKnown, oneKnown, noneKnown, adderBit, adderCost}
@@ -101,6 +101,20 @@ cost-left l r h = rw h
 pub cost-right : (l r : ℕ) → isKnown r ≡ false → adderCost l r ≡ 3
 unfolding adderCost pick
 cost-right l r h = rw (h, &&-false)
+
+pub cost-known : (l r : ℕ) → l < 2 → r < 2 → adderCost l r ≡ 1
+unfolding adderCost pick
+cost-known l r h k = rw (less-known l h, less-known r k)
+
+-- a right bit that is known wherever another is costs no more than it
+pub cost-less : (l a b : ℕ) → (b < 2 → a < 2) → adderCost l a ≤ adderCost l b
+unfolding adderCost
+cost-less l a b h = by-pick (λ k. adderCost l a ≤ k) (isKnown l && isKnown b) 1 3 (λ k. one k) (λ k. adder-cost l a .1)
+  where
+    one : (isKnown l && isKnown b) ≡ true → adderCost l a ≤ 1
+    one k =
+        let q = both (isKnown l) (isKnown b) k in
+        omega (arith, cost-known l a (known-less l (q .0)) (h (known-less b (q .1))))
 
 pub adder-law : (s : Net) (l r c : ℕ) → SumLaw s (In3 s l r c) (Kn3 l r c) (total3 l r c) (adderCost l r) (adderBit s l r c)
 unfolding adderBit

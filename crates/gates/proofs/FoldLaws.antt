@@ -9,11 +9,49 @@ use Rattle.netlist.specs.Record.{gate}
 use Rattle.netlist.specs.Kind.{xor, maj, free, usesY, usesZ, valueOf}
 use Rattle.netlist.specs.Net.{Net, Assign, Says, Obeys}
 use Rattle.netlist.specs.Bit.{isKnown}
-use Rattle.netlist.proofs.BitLaws.{by-known, least-unknown}
+use Rattle.netlist.proofs.BitLaws.{by-known, less-known, least-unknown}
 use Rattle.gates.specs.Made.{MadeBit, kept, added, gateNot, gateAnd, gateOr, gateMatriarch1, gateCarryHalf, gateResultHalf, gateCarryFull, gateResultFull}
 use Rattle.gates.specs.Fold.{notBit, andBit, orBit, xnorBit, notCost, xnorCost}
 use Rattle.gates.specs.Law.{BitLaw, In2, Kn2, In3, Kn3}
 use Rattle.gates.proofs.Laws.{kept-law, added-law, good-one, good-two, good-three, bit-map, then-law}
+
+-- ---- truth values
+
+pub &&-false : (b : Bool) → (b && false) ≡ false
+&&-false true = refl
+&&-false false = refl
+
+pub &&-true : (b : Bool) → (b && true) ≡ b
+&&-true true = refl
+&&-true false = refl
+
+||-false : (b : Bool) → (b || false) ≡ b
+||-false true = refl
+||-false false = refl
+
+||-true : (b : Bool) → (b || true) ≡ true
+||-true true = refl
+||-true false = refl
+
+not-not : (b : Bool) → not (not b) ≡ b
+not-not true = refl
+not-not false = refl
+
+xnor-true : (b : Bool) → not (xor b true) ≡ b
+xnor-true true = refl
+xnor-true false = refl
+
+xnor-false : (b : Bool) → not (xor b false) ≡ not b
+xnor-false true = refl
+xnor-false false = refl
+
+true-xnor : (b : Bool) → not (xor true b) ≡ b
+true-xnor true = refl
+true-xnor false = refl
+
+false-xnor : (b : Bool) → not (xor false b) ≡ not b
+false-xnor true = refl
+false-xnor false = refl
 
 -- ---- the gates themselves, over bits that are not known
 
@@ -54,42 +92,6 @@ module _ (s : Net) (a : ℕ) (ha : 2 ≤ a) where
 
 -- ---- folding
 
-pub &&-false : (b : Bool) → (b && false) ≡ false
-&&-false true = refl
-&&-false false = refl
-
-pub &&-true : (b : Bool) → (b && true) ≡ b
-&&-true true = refl
-&&-true false = refl
-
-||-false : (b : Bool) → (b || false) ≡ b
-||-false true = refl
-||-false false = refl
-
-||-true : (b : Bool) → (b || true) ≡ true
-||-true true = refl
-||-true false = refl
-
-not-not : (b : Bool) → not (not b) ≡ b
-not-not true = refl
-not-not false = refl
-
-xnor-true : (b : Bool) → not (xor b true) ≡ b
-xnor-true true = refl
-xnor-true false = refl
-
-xnor-false : (b : Bool) → not (xor b false) ≡ not b
-xnor-false true = refl
-xnor-false false = refl
-
-true-xnor : (b : Bool) → not (xor true b) ≡ b
-true-xnor true = refl
-true-xnor false = refl
-
-false-xnor : (b : Bool) → not (xor false b) ≡ not b
-false-xnor true = refl
-false-xnor false = refl
-
 -- a Not makes no gate where its operand is known, an Xnor at most one where its left operand is
 pub not-cost : (a : ℕ) → notCost a ≤ 1
 unfolding notCost
@@ -99,13 +101,25 @@ pub not-unknown : (a : ℕ) → 2 ≤ a → notCost a ≡ 1
 unfolding notCost pick
 not-unknown a h = rw (least-unknown a h)
 
-pub xnor-cost : (a : ℕ) → (1 ≤ xnorCost a) × (xnorCost a ≤ 2)
-unfolding xnorCost
-xnor-cost a = by-pick (λ k. (1 ≤ k) × (k ≤ 2)) (isKnown a) 1 2 (λ h. omega arith) (λ h. omega arith)
+pub not-known : (a : ℕ) → a < 2 → notCost a ≡ 0
+unfolding notCost pick
+not-known a h = rw (less-known a h)
 
-pub xnor-unknown : (a : ℕ) → 2 ≤ a → xnorCost a ≡ 2
+pub xnor-cost : (a b : ℕ) → (1 ≤ xnorCost a b) × (xnorCost a b ≤ 2)
+unfolding xnorCost
+xnor-cost a b = by-pick (λ k. (1 ≤ k) × (k ≤ 2)) (isKnown a || isKnown b) 1 2 (λ h. omega arith) (λ h. omega arith)
+
+pub xnor-unknown : (a b : ℕ) → 2 ≤ a → 2 ≤ b → xnorCost a b ≡ 2
 unfolding xnorCost pick
-xnor-unknown a h = rw (least-unknown a h)
+xnor-unknown a b h k = rw (least-unknown a h, least-unknown b k)
+
+pub xnor-known : (a b : ℕ) → a < 2 → xnorCost a b ≡ 1
+unfolding xnorCost pick
+xnor-known a b h = rw (less-known a h)
+
+pub xnor-known-right : (a b : ℕ) → b < 2 → xnorCost a b ≡ 1
+unfolding xnorCost pick
+xnor-known-right a b h = rw (less-known b h, ||-true)
 
 pub not-law : (s : Net) (a : ℕ) → BitLaw s (a < s .n) (a < 2) (λ e. not (e a)) (notCost a) (notBit s a)
 unfolding notBit
@@ -150,17 +164,17 @@ or-law s a b =
     P : MadeBit → Type 0
     P m = BitLaw s (In2 s a b) (Kn2 a b) (λ e. e a || e b) 1 m
 
-pub xnor-law : (s : Net) (a b : ℕ) → BitLaw s (In2 s a b) (Kn2 a b) (λ e. not (xor (e a) (e b))) (xnorCost a) (xnorBit s a b)
+pub xnor-law : (s : Net) (a b : ℕ) → BitLaw s (In2 s a b) (Kn2 a b) (λ e. not (xor (e a) (e b))) (xnorCost a b) (xnorBit s a b)
 unfolding xnorBit
 xnor-law s a b =
     by-known P a _ _ _
-    (λ h. bit-map (λ i. i .1) (λ k. k .1) (λ e o. simp (h, o .low, false-xnor)) (xnor-cost a .0) (not-one s b))
-    (λ h. kept-law (xnorCost a) b (λ e o. simp (h, o .high, true-xnor)) (λ i l. i .1) (λ k. k .1))
+    (λ h. bit-map (λ i. i .1) (λ k. k .1) (λ e o. simp (h, o .low, false-xnor)) (xnor-cost a b .0) (not-one s b))
+    (λ h. kept-law (xnorCost a b) b (λ e o. simp (h, o .high, true-xnor)) (λ i l. i .1) (λ k. k .1))
     (λ ha. by-known P b _ _ _
-    (λ h. bit-map (λ i. i .0) (λ k. k .0) (λ e o. simp (h, o .low, xnor-false)) (xnor-cost a .0) (not-one s a))
-    (λ h. kept-law (xnorCost a) a (λ e o. simp (h, o .high, xnor-true)) (λ i l. i .0) (λ k. k .0))
-    (λ hb. rw (xnor-unknown a ha)
+    (λ h. bit-map (λ i. i .0) (λ k. k .0) (λ e o. simp (h, o .low, xnor-false)) (xnor-cost a b .0) (not-one s a))
+    (λ h. kept-law (xnorCost a b) a (λ e o. simp (h, o .high, xnor-true)) (λ i l. i .0) (λ k. k .0))
+    (λ hb. rw (xnor-unknown a b ha hb)
     (then-law (λ e. not (xor (e a) (e b))) (result-half s a ha b hb) (λ i l q. q) (λ q w. w) (not-one _ _) (λ e q. ap not q))))
   where
     P : MadeBit → Type 0
-    P m = BitLaw s (In2 s a b) (Kn2 a b) (λ e. not (xor (e a) (e b))) (xnorCost a) m
+    P m = BitLaw s (In2 s a b) (Kn2 a b) (λ e. not (xor (e a) (e b))) (xnorCost a b) m

@@ -1,4 +1,5 @@
 -- Not, And, Or fold a known operand away. Xnor: known true gives the other bit, known false its Not; none known gives ResultHalf, then Not.
+use mathlib.Core.Bool.{_||_}
 use Prim.Native.Nat.{ℕ}
 use Rattle.loops.specs.Loop.{pick}
 use Rattle.netlist.specs.Net.{Net}
@@ -27,9 +28,9 @@ xnorBit s a b =
     (byKnown (knownOf b) (notBit s a) (kept s a)
     (notBit (r .net) (r .bit)))
 
--- how many gates are made at most: a known operand makes none for a Not, one for an Xnor
+-- how many gates are made at most: none for a Not of a known bit, one for an Xnor with one
 unfoldable pub notCost : ℕ → ℕ
 notCost a = pick (isKnown a) 0 1
 
-unfoldable pub xnorCost : ℕ → ℕ
-xnorCost a = pick (isKnown a) 1 2
+unfoldable pub xnorCost : ℕ → ℕ → ℕ
+xnorCost a b = pick (isKnown a || isKnown b) 1 2

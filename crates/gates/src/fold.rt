@@ -102,7 +102,7 @@ pub fn or_bit(gates: &mut [u32], at: At, a: u32, b: u32) -> Made
 
 // Not of the other where one is known false, two gates where none is known.
 pub fn xnor_bit(gates: &mut [u32], at: At, a: u32, b: u32) -> Made
-    requires { ⌜ Fits (now gates) at (xnorCost a) ⌝ }
+    requires { ⌜ Fits (now gates) at (xnorCost a b) ⌝ }
     ensures { λ r. ⌜ madeOf (now (gates .exit)) (r .at) (r .bit) ≡ xnorBit (netOf (now (gates .entry)) at) a b ⌝ }
 {
     let left = Gate::of(a);

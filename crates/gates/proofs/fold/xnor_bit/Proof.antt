@@ -24,7 +24,7 @@ enum-told-2 : tie.Need-enum-told-2
 enum-told-2 c = search needs
 
 not-bit-requires : tie.Need-not-bit-requires
-not-bit-requires c κs = omega (arith, xnor-cost (c .before .before .before .before .before .before .args .a), not-cost (c .before .before .before .before .before .before .args .b))
+not-bit-requires c κs = omega (arith, xnor-cost (c .before .before .before .before .before .before .args .a) (c .before .before .before .before .before .before .args .b), not-cost (c .before .before .before .before .before .before .args .b))
 
 enum-told-3 : tie.Need-enum-told-3
 enum-told-3 c = search needs
@@ -36,16 +36,16 @@ enum-told-5 : tie.Need-enum-told-5
 enum-told-5 c = search needs
 
 not-bit-requires-2 : tie.Need-not-bit-requires-2
-not-bit-requires-2 c κs = omega (arith, xnor-cost (c .before .before .before .before .before .before .before .before .args .a), not-cost (c .before .before .before .before .before .before .before .before .args .a))
+not-bit-requires-2 c κs = omega (arith, xnor-cost (c .before .before .before .before .before .before .before .before .args .a) (c .before .before .before .before .before .before .before .before .args .b), not-cost (c .before .before .before .before .before .before .before .before .args .a))
 
 enum-told-6 : tie.Need-enum-told-6
 enum-told-6 c = search needs
 
 append-requires : tie.Need-append-requires
-append-requires c κs = omega (arith, xnor-cost (c .before .before .before .before .before .before .before .before .args .a))
+append-requires c κs = omega (arith, xnor-cost (c .before .before .before .before .before .before .before .before .args .a) (c .before .before .before .before .before .before .before .before .args .b))
 
 not-bit-requires-3 : tie.Need-not-bit-requires-3
-not-bit-requires-3 c κs = omega (arith, cost-unknown _ (told-unknown _ _ (c .before .before .before .before .before .before .before .before .before .before .of .ensures) (c .before .before .before .before .before .before .before .enum-told3 .given .1)), not-cost (c .before .before .before .append .result .bit), most-added)
+not-bit-requires-3 c κs = omega (arith, cost-unknown _ _ (told-unknown _ _ (c .before .before .before .before .before .before .before .before .before .before .of .ensures) (c .before .before .before .before .before .before .before .enum-told3 .given .1)) (told-unknown _ _ (c .before .before .before .before .before .before .before .before .before .of2 .ensures) (c .before .before .before .before .before .enum-told6 .given .1)), not-cost (c .before .before .before .append .result .bit), most-added)
 
 returns : tie.Need-returns
 returns c = search (needs, xnor-false, xnor-true, xnor-right-false, xnor-right-true, xnor-unknown)

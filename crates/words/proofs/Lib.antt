@@ -1,0 +1,7 @@
+pub mod Sums
+pub mod NumLaws
+pub mod EachLaws
+pub mod AddLaws
+pub mod SubLaws
+pub mod EqLaws
+pub mod Paths

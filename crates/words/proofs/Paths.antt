@@ -1,0 +1,190 @@
+-- What the code's calls come to, path by path, over the definitions alone: a proof of the code cites each by its bare name in `search`.
+use mathlib.Core.Path.{_≡_, refl, ap, sym, _∙_}
+use mathlib.Core.List.{List}
+use mathlib.Core.Bool.{Bool}
+use Prim.Native.Nat.{ℕ, suc, _-_, _+_, _*_, _≤_, _<_}
+use native.Mathlib.Omega.{arith}
+use native.Mathlib.Numerals.{add-one}
+use lib.ListN.{length, getD, set, length-set}
+use Rattle.loops.specs.Loop.{iter, sum}
+use Rattle.netlist.specs.Net.{Net}
+use Rattle.gates.specs.declared.made.At.{At}
+use Rattle.gates.specs.Made.{MadeBit, MadeSum, netOf, madeOf, sumOf, kept}
+use Rattle.gates.specs.Fold.{notBit, andBit, orBit, xnorBit, notCost, xnorCost}
+use Rattle.gates.specs.Choice.{muxBit}
+use Rattle.gates.specs.Adder.{adderBit, adderCost}
+use Rattle.gates.specs.Law.{Ext, Grows}
+use Rattle.words.specs.declared.each.Bitwise.{Bitwise}
+use Rattle.words.specs.declared.each.Bitwise.the-variants.{Not, And, Or, Xnor, AndWith, Choose}
+use Rattle.words.specs.Num.{blank}
+use Rattle.words.specs.Each.{bitwise, bitCost, Word, wordOf, eachStep, eachBit, eachCost, copyStep, putBits}
+use Rattle.words.specs.Add.{Chain, chainOf, addStep, addOnto, chainCost, addCost, addWords}
+use Rattle.words.specs.Sub.{subWords, subCost, widened, ultWords}
+use Rattle.words.specs.Eq.{andStep, andAll, eqWords, eqCost}
+use Rattle.words.proofs.Sums.{sum-within}
+use Rattle.words.proofs.NumLaws.{blank-long}
+use Rattle.words.proofs.EachLaws.{each-ext, each-long, put-law}
+use Rattle.words.proofs.AddLaws.{onto-law, onto-long, copied-cost}
+use Rattle.words.proofs.SubLaws.{nots-less, wide-cost, wide-long}
+use Rattle.words.proofs.EqLaws.{ands-ext}
+
+-- one bit, by the operation
+module _ (s : Net) (m : MadeBit) (op : Bitwise) (a b : ℕ) where
+  pub is-not : op ≡ Not → m ≡ notBit s a → m ≡ bitwise op s a b
+  unfolding bitwise
+  is-not h q = rw h q
+
+  pub is-and : op ≡ And → m ≡ andBit s a b → m ≡ bitwise op s a b
+  unfolding bitwise
+  is-and h q = rw h q
+
+  pub is-or : op ≡ Or → m ≡ orBit s a b → m ≡ bitwise op s a b
+  unfolding bitwise
+  is-or h q = rw h q
+
+  pub is-xnor : op ≡ Xnor → m ≡ xnorBit s a b → m ≡ bitwise op s a b
+  unfolding bitwise
+  is-xnor h q = rw h q
+
+  pub is-and-with : (c : ℕ) → op ≡ AndWith c → m ≡ andBit s a c → m ≡ bitwise op s a b
+  unfolding bitwise
+  is-and-with c h q = rw h q
+
+  pub is-choose : (c : ℕ) → op ≡ Choose c → m ≡ muxBit s c a b → m ≡ bitwise op s a b
+  unfolding bitwise
+  is-choose c h q = rw h q
+
+module _ (op : Bitwise) (a b : ℕ) where
+  pub cost-not : op ≡ Not → bitCost op a b ≡ notCost a
+  unfolding bitCost
+  cost-not h = rw h
+
+  pub cost-and : op ≡ And → bitCost op a b ≡ 1
+  unfolding bitCost
+  cost-and h = rw h
+
+  pub cost-or : op ≡ Or → bitCost op a b ≡ 1
+  unfolding bitCost
+  cost-or h = rw h
+
+  pub cost-xnor : op ≡ Xnor → bitCost op a b ≡ xnorCost a b
+  unfolding bitCost
+  cost-xnor h = rw h
+
+  pub cost-and-with : (c : ℕ) → op ≡ AndWith c → bitCost op a b ≡ 1
+  unfolding bitCost
+  cost-and-with c h = rw h
+
+  pub cost-choose : (c : ℕ) → op ≡ Choose c → bitCost op a b ≡ 3
+  unfolding bitCost
+  cost-choose c h = rw h
+
+-- a word bit by bit
+pub each-path : (op : Bitwise) (left right g g′ out : List ℕ) (n n′ : At) (b i : ℕ) → madeOf g′ n′ b ≡ bitwise op (netOf g n) (getD left i 0) (getD right i 0)
+    → wordOf g′ n′ (set out i b) ≡ eachStep op left right i (wordOf g n out)
+unfolding eachStep
+each-path op left right g g′ out n n′ b i e = ap {B = Word} (λ (m : MadeBit). record { net = m .net; out = set out i (m .bit) }) e
+
+module _ (op : Bitwise) (left right : List ℕ) (s : Word) (g out : List ℕ) (n : At) (i : ℕ) (e : wordOf g n out ≡ eachBit op left right i s) where
+  pub each-most : n .n ≤ s .net .n + eachCost op left right i
+  each-most = omega (arith, ap (λ (x : Word). x .net .n) e, each-ext op left right s i .grows .upto)
+
+  pub each-gates : length g ≡ length (s .net .gates)
+  each-gates = ap (λ (x : Word). length (x .net .gates)) e ∙ each-ext op left right s i .grows .long
+
+  pub each-out : length out ≡ length (s .out)
+  each-out = ap (λ (x : Word). length (x .out)) e ∙ each-long op left right s i
+
+  -- room for bit i, where there is room for w of them
+  pub each-room : (w : ℕ) → i < w → n .n + bitCost op (getD left i 0) (getD right i 0) ≤ s .net .n + eachCost op left right w
+  each-room w l = omega (arith, each-most, sum-within (λ j. bitCost op (getD left j 0) (getD right j 0)) i w l)
+
+pub copy-path : (from : ℕ) (bits map : List ℕ) (i : ℕ) → set map (from + i) (getD bits i 0) ≡ copyStep from bits i map
+unfolding copyStep
+copy-path from bits map i = refl
+
+-- a chain of adders
+pub add-path : (from : ℕ) (right g g′ out : List ℕ) (n n′ : At) (c c′ b j : ℕ) → sumOf g′ n′ b c′ ≡ adderBit (netOf g n) (getD out (from + j) 0) (getD right j 0) c
+    → chainOf g′ n′ c′ (set out (from + j) b) ≡ addStep from right j (chainOf g n c out)
+unfolding addStep
+add-path from right g g′ out n n′ c c′ b j e =
+    ap {B = Chain} (λ (m : MadeSum). record { net = m .net; carry = m .carry; out = set out (from + j) (m .sum) }) e
+
+module _ (from : ℕ) (right : List ℕ) (s : Chain) (g out : List ℕ) (n : At) (c j : ℕ) (e : chainOf g n c out ≡ addOnto from right j s) where
+  pub onto-gates : from + j ≤ length (s .out) → length g ≡ length (s .net .gates)
+  onto-gates h = ap (λ (x : Chain). length (x .net .gates)) e ∙ onto-law from right s j h .ext .grows .long
+
+  pub onto-out : length out ≡ length (s .out)
+  onto-out = ap (λ (x : Chain). length (x .out)) e ∙ onto-long from right s j
+
+  pub onto-most : from + j ≤ length (s .out) → n .n ≤ s .net .n + chainCost from (s .out) right j
+  onto-most h = omega (arith, ap (λ (x : Chain). x .net .n) e, onto-law from right s j h .ext .grows .upto)
+
+  -- room for the adder at place j, where there is room for w of them
+  pub onto-room : (w : ℕ) → j < w → from + w ≤ length (s .out) → n .n + adderCost (getD out (from + j) 0) (getD right j 0) ≤ s .net .n + chainCost from (s .out) right w
+  onto-room w l h =
+      let q : getD out (from + j) 0 ≡ getD (s .out) (from + j) 0 =
+      ap (λ (x : Chain). getD (x .out) (from + j) 0) e ∙ onto-law from right s j (omega arith) .above (from + j) (omega arith) in
+      let k : adderCost (getD out (from + j) 0) (getD right j 0) ≡ adderCost (getD (s .out) (from + j) 0) (getD right j 0) = ap (λ (b : ℕ). adderCost b (getD right j 0)) q in
+      omega (arith, onto-most (omega arith), sum-within (λ i. adderCost (getD (s .out) (from + i) 0) (getD right i 0)) j w l)
+
+pub put-long : (from : ℕ) (bits map out : List ℕ) (w : ℕ) → from + w ≤ length map → out ≡ putBits from bits w map → length out ≡ length map
+put-long from bits map out w h e = rw e (put-law from bits map w h .long)
+
+-- the left word copied, and the right one added onto it
+module _ (left right g out out₁ : List ℕ) (n : At) (w : ℕ) (p : out₁ ≡ putBits 0 left w out) where
+  pub add-words-room : w ≤ length out → (c : ℕ) → chainCost 0 out₁ right w ≤ addCost left right w
+  add-words-room h c = rw p (copied-cost left right (chainOf g n c out) w h)
+
+  pub add-words-path : (g₂ out₂ : List ℕ) (n₂ : At) (c c₂ : ℕ) → chainOf g₂ n₂ c₂ out₂ ≡ addOnto 0 right w (chainOf g n c out₁)
+      → chainOf g₂ n₂ c₂ out₂ ≡ addWords w left right (chainOf g n c out)
+  add-words-path g₂ out₂ n₂ c c₂ q = q ∙ ap (λ (l : List ℕ). addOnto 0 right w (chainOf g n c l)) p
+
+-- the Nots, and the chain over them
+module _ (left right g g₁ nots : List ℕ) (n n₁ : At) (w : ℕ) (e : wordOf g₁ n₁ nots ≡ eachBit Not right right w (wordOf g n blank)) where
+  pub sub-room : (out : List ℕ) → w ≤ 65 → w ≤ length out → n₁ .n + addCost left nots w ≤ n .n + subCost left right w
+  sub-room out h k =
+      let q : nots ≡ eachBit Not right right w (wordOf g n blank) .out = ap (λ (x : Word). x .out) e in
+      let r : addCost left nots w ≡ addCost left (eachBit Not right right w (wordOf g n blank) .out) w = ap (λ (l : List ℕ). addCost left l w) q in
+      omega (arith, each-most Not right right (wordOf g n blank) g₁ nots n₁ w e, nots-less w left right (netOf g n) out h k)
+
+  pub sub-path : (g₂ out out₂ : List ℕ) (n₂ : At) (c₂ : ℕ) → chainOf g₂ n₂ c₂ out₂ ≡ addWords w left nots (chainOf g₁ n₁ 1 out)
+      → chainOf g₂ n₂ c₂ out₂ ≡ subWords w left right (netOf g n) out
+  unfolding subWords
+  sub-path g₂ out out₂ n₂ c₂ q =
+      q ∙ ap {B = Chain} (λ (r : Word). addWords w left (r .out) (record { net = r .net; carry = 1; out = out })) e
+
+pub ult-path : (left right g g₁ wl wr d : List ℕ) (n n₁ : At) (w c₁ : ℕ) → wl ≡ putBits 0 left w blank → wr ≡ putBits 0 right w blank
+    → chainOf g₁ n₁ c₁ d ≡ subWords (w + 1) wl wr (netOf g n) blank → madeOf g₁ n₁ (getD d w 0) ≡ ultWords w left right (netOf g n)
+unfolding ultWords
+ult-path left right g g₁ wl wr d n n₁ w c₁ p q e =
+    ap {B = MadeBit} (λ (c : Chain). kept (c .net) (getD (c .out) w 0)) (e ∙ (ap (λ (l : List ℕ). subWords (w + 1) l wr (netOf g n) blank) p
+    ∙ ap (λ (l : List ℕ). subWords (w + 1) (widened w left) l (netOf g n) blank) q))
+
+-- the Ands
+pub and-path : (bits g g′ : List ℕ) (n n′ : At) (b b′ i : ℕ) → madeOf g′ n′ b′ ≡ andBit (netOf g n) b (getD bits (i + 1) 0) → madeOf g′ n′ b′ ≡ andStep bits i (madeOf g n b)
+unfolding andStep
+and-path bits g g′ n n′ b b′ i e = e
+
+module _ (bits : List ℕ) (s : Net) (g : List ℕ) (n : At) (b b₀ i : ℕ) (e : madeOf g n b ≡ iter i (andStep bits) (kept s b₀)) where
+  pub ands-most : n .n ≤ s .n + i
+  ands-most = omega (arith, ap (λ (m : MadeBit). m .net .n) e, ands-ext bits s b₀ i .grows .upto)
+
+  pub ands-gates : length g ≡ length (s .gates)
+  ands-gates = ap (λ (m : MadeBit). length (m .net .gates)) e ∙ ands-ext bits s b₀ i .grows .long
+
+module _ (left right g g₁ x : List ℕ) (n n₁ : At) (w : ℕ) (e : wordOf g₁ n₁ x ≡ eachBit Xnor left right w (wordOf g n blank)) where
+  pub eq-room : n₁ .n + (w - 1) ≤ n .n + eqCost left right w
+  eq-room = omega (arith, each-most Xnor left right (wordOf g n blank) g₁ x n₁ w e)
+
+  pub eq-path : (g₂ : List ℕ) (n₂ : At) (b₂ : ℕ) → madeOf g₂ n₂ b₂ ≡ andAll w x (netOf g₁ n₁) → madeOf g₂ n₂ b₂ ≡ eqWords w left right (netOf g n)
+  unfolding eqWords
+  eq-path g₂ n₂ b₂ q = q ∙ ap {B = MadeBit} (λ (r : Word). andAll w (r .out) (r .net)) e
+
+-- the two sides widened
+module _ (left right wl wr : List ℕ) (w : ℕ) (small : w ≤ 64) (p : wl ≡ putBits 0 left w blank) (q : wr ≡ putBits 0 right w blank) where
+  pub ult-room : subCost wl wr (w + 1) ≤ 4 * w + 1
+  ult-room = rw (p, q) (wide-cost w left right small)
+
+  pub ult-long : (length wl ≡ 65) × (length wr ≡ 65)
+  ult-long = (ap length p ∙ wide-long w left small, ap length q ∙ wide-long w right small)

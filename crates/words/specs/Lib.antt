@@ -1,0 +1,5 @@
+pub mod Num
+pub mod Each
+pub mod Add
+pub mod Sub
+pub mod Eq
