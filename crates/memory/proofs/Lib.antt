@@ -1,0 +1,4 @@
+pub mod AddressLaws
+pub mod ReadLaws
+pub mod WriteLaws
+pub mod Paths
