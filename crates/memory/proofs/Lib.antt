@@ -2,3 +2,4 @@ pub mod AddressLaws
 pub mod ReadLaws
 pub mod WriteLaws
 pub mod Paths
+pub mod Small
