@@ -1,0 +1,4 @@
+pub mod Decimals
+pub mod Puts
+pub mod Rooms
+pub mod Writes

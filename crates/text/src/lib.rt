@@ -1,0 +1,3 @@
+// The program's lines as bytes: a table's text read (read.rt), a lowered table's lines written (write.rt).
+pub mod put;
+pub mod write;
