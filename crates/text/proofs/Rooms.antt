@@ -11,26 +11,12 @@ use Rattle.loops.specs.Loop.{pick}
 use Rattle.text.specs.Number.{decimal}
 use Rattle.text.specs.Line.{numbers, rest, line}
 use Rattle.text.specs.Write.{part, gateSize, constraintSize, gateName, bitsName, constraintName, doneName, refusedName, gateCount, constraintCount, gateLine, bitsLine, constraintLine, doneLine, refusedLine, each, output, Offsets, outputRoom, refusedRoom}
+use Rattle.text.proofs.Elements.{Below, below-all, below-drop, below-take}
 use Rattle.text.proofs.Decimals.{decimal-length}
 
 -- numbers of 32 bits
 abbrev Small : List ℕ → Type 0
-Small [] = Unit {0}
-Small (n ∷ ns) = (n < 2 ^ 32) × Small ns
-
-small-all : (l : List ℕ) → ((i : ℕ) → getD l i 0 < 2 ^ 32) → Small l
-small-all [] h = tt
-small-all (n ∷ ns) h = (h 0, small-all ns (λ i. h (suc i)))
-
-small-drop : (o : ℕ) (l : List ℕ) → Small l → Small (drop o l)
-small-drop zero l h = h
-small-drop (suc o) [] h = h
-small-drop (suc o) (n ∷ ns) h = small-drop o ns (h .1)
-
-small-take : (k : ℕ) (l : List ℕ) → Small l → Small (take k l)
-small-take zero l h = tt
-small-take (suc k) [] h = h
-small-take (suc k) (n ∷ ns) h = (h .0, small-take k ns (h .1))
+Small l = Below (2 ^ 32) l
 
 numbers-length : (ns : List ℕ) → Small ns → length (numbers ns) ≤ 11 * length ns
 unfolding numbers
@@ -51,7 +37,7 @@ part-length o e l = rw (length-take (e - o) (drop o l)) (omega arith)
 record-length : (name l : List ℕ) (o e : ℕ) → Small l → length (line name (part o e l)) ≤ length name + 11 * (e - o) + 1
 unfolding line
 record-length name l o e h =
-    let n : length (numbers (part o e l)) ≤ 11 * length (part o e l) = numbers-length (part o e l) (small-take (e - o) (drop o l) (small-drop o l h)) in
+    let n : length (numbers (part o e l)) ≤ 11 * length (part o e l) = numbers-length (part o e l) (below-take (2 ^ 32) (e - o) (drop o l) (below-drop (2 ^ 32) o l h)) in
     let p : length (part o e l) ≤ e - o = part-length o e l in
     rw (length-append name (rest (part o e l)), rest-length (part o e l)) (omega arith)
 
@@ -138,8 +124,8 @@ pub output-length : (gates map offsets marks cs : List ℕ) → ((i : ℕ) → g
     → length (output gates map offsets marks cs) ≤ outputRoom (gateCount gates) (length marks) (length map) (constraintCount cs)
 unfolding output outputRoom
 output-length gates map offsets marks cs g m k a b c o =
-    let e₁ = each-length (gateLine gates) (26 + 11 * gateSize) (gateCount gates) (λ i h. gate-length gates (small-all gates g) i (omega arith)) in
-    let e₂ = bits-all map offsets marks (small-all map m) (length marks) b o in
-    let e₃ = each-length (constraintLine cs) (11 + 11 * constraintSize) (constraintCount cs) (λ i h. constraint-length cs (small-all cs k) i) in
+    let e₁ = each-length (gateLine gates) (26 + 11 * gateSize) (gateCount gates) (λ i h. gate-length gates (below-all (2 ^ 32) gates g) i (omega arith)) in
+    let e₂ = bits-all map offsets marks (below-all (2 ^ 32) map m) (length marks) b o in
+    let e₃ = each-length (constraintLine cs) (11 + 11 * constraintSize) (constraintCount cs) (λ i h. constraint-length cs (below-all (2 ^ 32) cs k) i) in
     let e₄ = done-length (gateCount gates) (constraintCount cs) (omega arith) (omega arith) in
     simp length-append (omega arith)
