@@ -1,5 +1,7 @@
 pub mod Decimals
 pub mod Elements
+pub mod Fields
+pub mod Lines
 pub mod Names
 pub mod Numbers
 pub mod Puts

@@ -4,3 +4,7 @@ pub mod Put
 pub mod Write
 pub mod Name
 pub mod Key
+pub mod Rows
+pub mod Plain
+pub mod Field
+pub mod NodeLine
