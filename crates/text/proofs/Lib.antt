@@ -1,9 +1,15 @@
+pub mod Cuts
 pub mod Decimals
 pub mod Elements
 pub mod Fields
+pub mod Fills
 pub mod Lines
 pub mod Names
+pub mod Nodes
 pub mod Numbers
+pub mod Pairs
 pub mod Puts
+pub mod Readings
 pub mod Rooms
+pub mod Texts
 pub mod Writes

@@ -6,12 +6,12 @@ use Prim.Native.Nat.{ℕ, zero, suc, _+_, _-_, _*_, _^_, _≤_, _<_}
 use native.Mathlib.Omega.{arith}
 use native.Mathlib.Decide.{decLt}
 use native.Mathlib.Nat.{pow-suc}
-use lib.Dec.{eqb, ltb}
+use lib.Dec.{eqb, ltb, leb}
 use lib.ListN.{length, getD, drop, length-drop, drop-of-length-le}
 use lib.Seq.{drop-cons}
-use borrow.Author.Tests.{lt-ltb, le-ltb, eq-eqb, ne-eqb, eqb-true}
+use borrow.Author.Tests.{lt-ltb, le-ltb, eq-eqb, ne-eqb, eqb-true, ltb-true, leb-true}
 use Rattle.loops.specs.Loop.{pick, first}
-use Rattle.loops.proofs.Loop.{first-found, first-more, first-done}
+use Rattle.loops.proofs.Loop.{first-found, first-more, first-done, both}
 use Rattle.text.specs.Name.{same, wordName, addrName, nodeName, kindNames, isNamed, placeOf}
 use Rattle.text.specs.Key.{pack, key, kindKeys, isKind}
 use Rattle.text.proofs.Elements.{Below, below-drop}
@@ -60,3 +60,125 @@ module _ (k i : ℕ) (e : i ≡ first i (isKind k)) where
 
   pub kind-none : 23 ≤ i → i ≤ 23 → i ≡ first 23 (isKind k)
   kind-none h g = first-done (isKind k) i 23 h g e
+
+-- the same bytes
+pub same-refl : (s : List ℕ) → same s s ≡ true
+unfolding same
+same-refl [] = refl
+same-refl (c ∷ cs) = rw (eq-eqb c c refl) (same-refl cs)
+
+pub same-eq : (s t : List ℕ) → same s t ≡ true → s ≡ t
+unfolding same
+same-eq [] [] e = refl
+same-eq [] (d ∷ ds) e = absurd (let z : _≡_ {A = ℕ} 0 1 = cc in omega arith)
+same-eq (c ∷ cs) [] e = absurd (let z : _≡_ {A = ℕ} 0 1 = cc in omega arith)
+same-eq (c ∷ cs) (d ∷ ds) e =
+    let b = both (eqb c d) (same cs ds) e in
+    let p = eqb-true c d (b .0) in
+    let q = same-eq cs ds (b .1) in
+    cc
+
+pub bool-same : (a b : Bool) → (a ≡ true → b ≡ true) → (b ≡ true → a ≡ true) → a ≡ b
+bool-same true b f g = sym (f refl)
+bool-same false true f g = g refl
+bool-same false false f g = refl
+
+pack-some : (s : List ℕ) → 1 ≤ pack s
+unfolding pack
+pack-some [] = omega arith
+pack-some (c ∷ cs) = omega (arith, pack-some cs)
+
+pack-same : (s t : List ℕ) → Below 256 s → Below 256 t → pack s ≡ pack t → s ≡ t
+unfolding pack
+pack-same [] [] a b e = refl
+pack-same [] (d ∷ ds) a b e = absurd (omega (arith, pack-some ds))
+pack-same (c ∷ cs) [] a b e = absurd (omega (arith, pack-some cs))
+pack-same (c ∷ cs) (d ∷ ds) a b e =
+    let p : c ≡ d = omega arith in
+    let q : pack cs ≡ pack ds = omega arith in
+    let r = pack-same cs ds (a .1) (b .1) q in
+    cc
+
+key-eq : (name s : List ℕ) → Below 256 name → Below 256 s → length name ≤ 7 → key name ≡ key s → Dec (7 < length s) → name ≡ s
+unfolding key pick
+key-eq name s a b h e (yes l) = absurd (let k : key name ≡ pack name = rw (le-ltb 7 (length name) h) in let m : key s ≡ 0 = rw (lt-ltb 7 (length s) l) in omega (arith, pack-some name))
+key-eq name s a b h e (no l) =
+    let k : key name ≡ pack name = rw (le-ltb 7 (length name) h) in
+    let m : key s ≡ pack s = rw (le-ltb 7 (length s) (omega arith)) in
+    pack-same name s a b (omega arith)
+
+-- comparing keys is comparing names
+pub key-same : (name s : List ℕ) → Below 256 name → Below 256 s → length name ≤ 7 → eqb (key name) (key s) ≡ same name s
+key-same name s a b h =
+    bool-same _ _
+    (λ e. let q = key-eq name s a b h (eqb-true (key name) (key s) e) (decLt 7 (length s)) in rw (← q) (same-refl name))
+    (λ e. let q = same-eq name s e in rw q (eq-eqb (key s) (key s) refl))
+
+-- names that fit a key, as a test
+unfoldable pub bytes : List ℕ → Bool
+bytes [] = true
+bytes (c ∷ cs) = ltb c 256 && bytes cs
+
+bytes-below : (s : List ℕ) → bytes s ≡ true → Below 256 s
+unfolding bytes
+bytes-below [] e = tt
+bytes-below (c ∷ cs) e = let b = both (ltb c 256) (bytes cs) e in (ltb-true c 256 (b .0), bytes-below cs (b .1))
+
+unfoldable pub fine : List (List ℕ) → Bool
+fine [] = true
+fine (n ∷ ns) = (leb (length n) 7 && bytes n) && fine ns
+
+keysOf : List (List ℕ) → List ℕ
+keysOf [] = []
+keysOf (n ∷ ns) = key n ∷ keysOf ns
+
+named : (ns : List (List ℕ)) → fine ns ≡ true → (s : List ℕ) → Below 256 s → (i : ℕ) → i < length ns → eqb (getD (keysOf ns) i 0) (key s) ≡ same (getD ns i []) s
+unfolding fine keysOf
+named [] e s b i h = absurd (omega arith)
+named (n ∷ ns) e s b zero h =
+    let f = both (leb (length n) 7 && bytes n) (fine ns) e in
+    let g = both (leb (length n) 7) (bytes n) (f .0) in
+    key-same n s (bytes-below n (g .1)) b (leb-true (length n) 7 (g .0))
+named (n ∷ ns) e s b (suc i) h = named ns (both (leb (length n) 7 && bytes n) (fine ns) e .1) s b i (omega arith)
+
+kinds-fine : fine kindNames ≡ true
+unfolding fine bytes kindNames
+kinds-fine = refl
+
+kinds-keys : keysOf kindNames ≡ kindKeys
+unfolding keysOf kindNames kindKeys key pack pick
+kinds-keys = refl
+
+kinds-count : length kindNames ≡ 23
+unfolding kindNames
+kinds-count = refl
+
+first-same : (n : ℕ) (p q : ℕ → Bool) → ((i : ℕ) → i < n → p i ≡ q i) → first n p ≡ first n q
+unfolding first
+first-same zero p q h = refl
+first-same (suc n) p q h = rw (first-same n p q (λ i l. h i (omega arith)), h n (omega arith))
+
+-- a kind is found by its key where it is found by its name
+pub place-is : (s : List ℕ) → Below 256 s → first 23 (isKind (key s)) ≡ placeOf s
+unfolding placeOf isKind isNamed
+place-is s b = first-same 23 (isKind (key s)) (isNamed s) (λ i h. rw (← kinds-keys) (named kindNames kinds-fine s b i (rw kinds-count h)))
+
+-- a line's name is found by its key
+pub name-is : (name s : List ℕ) → fine (name ∷ []) ≡ true → Below 256 s → eqb (key s) (key name) ≡ same name s
+unfolding keysOf
+name-is name s f b = eqb-turned (key s) (key name) ∙ named (name ∷ []) f s b 0 (omega arith)
+  where
+    eqb-turned : (m n : ℕ) → eqb m n ≡ eqb n m
+    eqb-turned m n = bool-same (eqb m n) (eqb n m) (λ e. eq-eqb n m (sym (eqb-true m n e))) (λ e. eq-eqb m n (sym (eqb-true n m e)))
+
+pub word-fine : fine (wordName ∷ []) ≡ true
+unfolding fine bytes wordName
+word-fine = refl
+
+pub addr-fine : fine (addrName ∷ []) ≡ true
+unfolding fine bytes addrName
+addr-fine = refl
+
+pub node-fine : fine (nodeName ∷ []) ≡ true
+unfolding fine bytes nodeName
+node-fine = refl

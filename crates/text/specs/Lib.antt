@@ -8,3 +8,4 @@ pub mod Rows
 pub mod Plain
 pub mod Field
 pub mod NodeLine
+pub mod Read

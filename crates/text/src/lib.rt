@@ -4,4 +4,5 @@ pub mod line;
 pub mod name;
 pub mod number;
 pub mod put;
+pub mod read;
 pub mod write;

@@ -1,0 +1,85 @@
+-- Records stored line by line are the leading lines' records stored.
+use mathlib.Core.Path.{_≡_, refl, ap, sym, _∙_}
+use mathlib.Core.List.{List, [], _∷_, _++_}
+use mathlib.Core.Bool.{Bool, true, false}
+use Prim.Native.Nat.{ℕ, zero, suc, _+_, _-_, _*_, _/_, _≤_, _<_}
+use native.Mathlib.Omega.{arith}
+use native.Mathlib.Nat.{mul-zero}
+use native.Mathlib.Numerals.{add-one}
+use lib.ListN.{length, getD, set, drop, drop-of-length-le}
+use lib.Seq.{sets, length-sets, drop-cons}
+use Rattle.loops.specs.Loop.{pick}
+use Rattle.text.specs.Rows.{rows, lines, eachFields}
+use Rattle.text.specs.Plain.{lead}
+use Rattle.text.specs.Read.{flat, fill, Filled}
+use Rattle.text.specs.Read.Filled.{filled}
+use Rattle.text.proofs.Cuts.{row, rest, rows-split}
+
+pub sets-append : (u v l : List ℕ) (i : ℕ) → sets l i (u ++ v) ≡ sets (sets l i u) (i + length u) v
+sets-append [] v l i = let z : i ≡ i + 0 = omega arith in ap (λ (k : ℕ). sets l k v) z
+sets-append (a ∷ u) v l i =
+    let z : suc i + length u ≡ i + suc (length u) = omega arith in
+    sets-append u v (set l i a) (suc i) ∙ ap (λ (k : ℕ). sets (sets (set l i a) (suc i) u) k v) z
+
+-- the lines from a place on
+pub rows-at : (x : List ℕ) (p : ℕ) → p < length x → rows (drop p x) ≡ row (drop p x) ∷ rows (rest (drop p x))
+rows-at x p h = rw (drop-cons x p 0 h) (rows-split (getD x p 0) (drop (suc p) x))
+
+pub rows-none : (x : List ℕ) (p : ℕ) → length x ≤ p → rows (drop p x) ≡ []
+unfolding rows lines eachFields
+rows-none x p h = rw (drop-of-length-le x h)
+
+module _ (size : ℕ) (good : ℕ → List (List ℕ) → Bool) (of : List (List ℕ) → List ℕ) (b : List ℕ) (n : ℕ) where
+  lead-full : (j i : ℕ) (rs : List (List (List ℕ))) → j ≡ 0 → lead good of j i rs ≡ []
+  unfolding lead
+  lead-full zero i rs e = refl
+  lead-full (suc j) i rs e = absurd (omega arith)
+
+  lead-none : (j i : ℕ) → lead good of j i [] ≡ []
+  unfolding lead
+  lead-none zero i = refl
+  lead-none (suc j) i = refl
+
+  lead-bad : (j i : ℕ) (r : List (List ℕ)) (rs : List (List (List ℕ))) → good i r ≡ false → lead good of j i (r ∷ rs) ≡ []
+  unfolding lead pick
+  lead-bad zero i r rs e = refl
+  lead-bad (suc j) i r rs e = rw e
+
+  lead-more : (j k i : ℕ) (r : List (List ℕ)) (rs : List (List (List ℕ))) → j ≡ suc k → good i r ≡ true → lead good of j i (r ∷ rs) ≡ of r ∷ lead good of k (suc i) rs
+  unfolding lead pick
+  lead-more j k i r rs q e = rw (q, e)
+
+  stop : (rs : List (List (List ℕ))) → lead good of (length b / size - n) (n + 1) rs ≡ [] → filled b n rs ≡ fill size good of b n rs
+  unfolding fill flat
+  stop rs e = let z : n + 0 ≡ n = omega arith in rw (e, z)
+
+  pub fill-full : (rs : List (List (List ℕ))) → length b / size ≤ n → filled b n rs ≡ fill size good of b n rs
+  fill-full rs h = stop rs (lead-full (length b / size - n) (n + 1) rs (omega arith))
+
+  pub fill-none : filled b n [] ≡ fill size good of b n []
+  fill-none = stop [] (lead-none (length b / size - n) (n + 1))
+
+  pub fill-bad : (r : List (List ℕ)) (rs : List (List (List ℕ))) → good (n + 1) r ≡ false → filled b n (r ∷ rs) ≡ fill size good of b n (r ∷ rs)
+  fill-bad r rs e = stop (r ∷ rs) (lead-bad (length b / size - n) (n + 1) r rs e)
+
+  pub fill-more : (r : List (List ℕ)) (rs : List (List (List ℕ))) → n < length b / size → good (n + 1) r ≡ true → size * n + length (of r) ≡ size * (n + 1)
+      → fill size good of (sets b (size * n) (of r)) (n + 1) rs ≡ fill size good of b n (r ∷ rs)
+  unfolding fill flat
+  fill-more r rs h e q =
+      let j : length b / size - n ≡ suc (length b / size - (n + 1)) = omega arith in
+      let l = lead-more (length b / size - n) (length b / size - (n + 1)) (n + 1) r rs j e in
+      let c : suc (n + 1) ≡ n + 1 + 1 = omega arith in
+      let k : (ls : List (List ℕ)) → n + 1 + length ls ≡ n + suc (length ls) = λ ls. omega arith in
+      rw (l, length-sets b (size * n) (of r), c, sets-append (of r) _ b (size * n), q, k _)
+
+-- from an empty buffer on
+pub fill-first : (size : ℕ) (good : ℕ → List (List ℕ) → Bool) (of : List (List ℕ) → List ℕ) (b c : List ℕ) (m : ℕ) (rs qs : List (List (List ℕ))) → filled c m qs ≡ fill size good of b 0 rs
+    → (c ≡ sets b 0 (flat (lead good of (length b / size) 1 rs))) × (m ≡ length (lead good of (length b / size) 1 rs)) × (qs ≡ drop (length (lead good of (length b / size) 1 rs)) rs)
+unfolding fill
+fill-first size good of b c m rs qs e =
+    let z : size * 0 ≡ 0 = mul-zero size in
+    let y : length b / size - 0 ≡ length b / size = omega arith in
+    let ls : List (List ℕ) = lead good of (length b / size) 1 rs in
+    let w : 0 + length ls ≡ length ls = omega arith in
+    let q : filled c m qs ≡ filled (sets b 0 (flat ls)) (length ls) (drop (length ls) rs) = rw (z, y, w) at e in
+    (cc, cc, cc)
