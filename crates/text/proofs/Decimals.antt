@@ -39,3 +39,27 @@ digits-length (suc k) (suc f) n h = length-step (suc k) f n h (λ m. digits-leng
 pub decimal-length : (k n : ℕ) → n < 10 ^ suc k → length (decimal n) ≤ suc k
 unfolding decimal
 decimal-length k n h = digits-length k (suc n) n h
+
+-- any number above n gives the digits of n
+fuel-step : (f g n : ℕ) → (10 ≤ n → digits f (n / 10) ≡ digits g (n / 10)) → Dec (n < 10) → digits (suc f) n ≡ digits (suc g) n
+fuel-step f g n k (yes l) = small-digits f n l ∙ sym (small-digits g n l)
+fuel-step f g n k (no l) =
+    let m : 10 ≤ n = omega arith in
+    rw (large-digits f n m, large-digits g n m, k m)
+
+digits-same : (f g n : ℕ) → n < f → n < g → digits f n ≡ digits g n
+digits-same zero g n h k = absurd (omega arith)
+digits-same (suc f) zero n h k = absurd (omega arith)
+digits-same (suc f) (suc g) n h k = fuel-step f g n (λ m. digits-same f g (n / 10) (omega arith) (omega arith)) (decLt n 10)
+
+-- the digits of 10 u + d are those of u, and d
+pub decimal-small : (d : ℕ) → d < 10 → decimal d ≡ (48 + d) ∷ []
+unfolding decimal
+decimal-small d h = small-digits d d h
+
+pub decimal-more : (u d : ℕ) → 1 ≤ u → d < 10 → decimal (10 * u + d) ≡ decimal u ++ ((48 + d) ∷ [])
+unfolding decimal
+decimal-more u d h k =
+    let q : (10 * u + d) / 10 ≡ u = omega arith in
+    let r : (10 * u + d) % 10 ≡ d = omega arith in
+    rw (large-digits (10 * u + d) (10 * u + d) (omega arith), q, r, digits-same (10 * u + d) (suc u) u (omega arith) (omega arith))

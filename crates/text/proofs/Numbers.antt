@@ -1,6 +1,6 @@
 -- What reading a number comes to.
 use mathlib.Core.Path.{_≡_, refl, ap, sym, _∙_}
-use mathlib.Core.List.{List, [], _∷_, _++_}
+use mathlib.Core.List.{List, [], _∷_, _++_, append-assoc, append-nil}
 use mathlib.Core.Bool.{Bool, true, false, not, _&&_, _||_}
 use Prim.Native.Nat.{ℕ, zero, suc, _+_, _-_, _*_, _/_, _%_, _^_, _≤_, _<_}
 use native.Mathlib.Omega.{arith}
@@ -9,12 +9,13 @@ use native.Mathlib.Numerals.{add-one}
 use lib.Dec.{eqb, ltb, leb}
 use lib.ListN.{length, getD, take, drop, length-append, List·getD-append}
 use lib.Seq.{take-suc, take-all}
-use borrow.Author.Tests.{lt-ltb, le-ltb, le-leb, lt-leb, eq-eqb, ne-eqb}
+use borrow.Author.Tests.{lt-ltb, le-ltb, le-leb, lt-leb, eq-eqb, ne-eqb, eqb-true, eqb-false, leb-true, ltb-true}
 use Rattle.loops.specs.Loop.{pick}
+use Rattle.loops.proofs.Loop.{both}
 use Rattle.text.specs.declared.number.Num.{Num}
 use Rattle.text.specs.declared.number.Num.the-variants.{Bad, Is}
 use Rattle.text.specs.Number.{digits, decimal, addDigit, digit, numberFrom, number}
-use Rattle.text.proofs.Decimals.{small-digits, large-digits}
+use Rattle.text.proofs.Decimals.{small-digits, large-digits, decimal-small, decimal-more}
 
 module _ (v c : ℕ) where
   pub add-low : c < 48 → Bad ≡ addDigit v c
@@ -114,3 +115,87 @@ number-decimal n g = go (decLt 0 n)
       where
         zero-read : number (digits 1 0) ≡ Is 0
         zero-read = rw (small-digits 0 0 (omega arith)) refl
+
+-- what is read is what would be written
+bad-stays : (s : List ℕ) → numberFrom Bad s ≡ Bad
+unfolding numberFrom digit
+bad-stays [] = refl
+bad-stays (c ∷ cs) = bad-stays cs
+
+-- a digit that was added
+abbrev Digit : ℕ → ℕ → ℕ → Type 0
+Digit u c v = (48 ≤ c) × (c ≤ 57) × (v < 2 ^ 64) × (v ≡ 10 * u + (c - 48))
+
+added : (u c v : ℕ) → addDigit u c ≡ Is v → Digit u c v
+unfolding addDigit pick
+added u c v e = go (leb 48 c && leb c 57 && ltb (10 * u + (c - 48)) (2 ^ 64)) refl e
+  where
+    go : (b : Bool) → (leb 48 c && leb c 57 && ltb (10 * u + (c - 48)) (2 ^ 64)) ≡ b → pick b (Is (10 * u + (c - 48))) Bad ≡ Is v → Digit u c v
+    go true t q =
+        let p₁ = both (leb 48 c && leb c 57) (ltb (10 * u + (c - 48)) (2 ^ 64)) t in
+        let p₂ = both (leb 48 c) (leb c 57) (p₁ .0) in
+        let w : v ≡ 10 * u + (c - 48) = cc in
+        (leb-true 48 c (p₂ .0), leb-true c 57 (p₂ .1), omega (arith, ltb-true (10 * u + (c - 48)) (2 ^ 64) (p₁ .1)), w)
+    go false t q = absurd (let z : _≡_ {A = ℕ} 0 1 = cc in omega arith)
+
+first-digit : (u c : ℕ) (cs : List ℕ) (v : ℕ) (n : Num) → addDigit u c ≡ n → numberFrom n cs ≡ Is v → (P : Type 0) → ((w : ℕ) → Digit u c w → numberFrom (Is w) cs ≡ Is v → P) → P
+first-digit u c cs v Bad e q P k = absurd (let b = bad-stays cs in let z : _≡_ {A = ℕ} 0 1 = cc in omega arith)
+first-digit u c cs v (Is w) e q P k = k w (added u c w e) q
+
+-- after a number that is not 0
+from-digits : (u : ℕ) (s : List ℕ) (v : ℕ) → 1 ≤ u → u < 2 ^ 64 → numberFrom (Is u) s ≡ Is v → (decimal v ≡ decimal u ++ s) × (v < 2 ^ 64)
+unfolding numberFrom digit
+from-digits u [] v h l e = let w : v ≡ u = cc in (rw w (sym (append-nil (decimal u))), omega arith)
+from-digits u (c ∷ cs) v h l e =
+    first-digit u c cs v (addDigit u c) refl e _ (λ w d q.
+      let i = from-digits w cs v (omega arith) (d .2) q in
+      let z : 48 + (c - 48) ≡ c = omega arith in
+      let m : decimal w ≡ decimal u ++ (c ∷ []) = rw (d .3, decimal-more u (c - 48) h (omega arith), z) in
+      (i .0 ∙ rw m (append-assoc (decimal u) (c ∷ []) cs), i .1))
+
+-- some digits, and no zero before others
+number-parts : (c : ℕ) (cs : List ℕ) (v : ℕ) → number (c ∷ cs) ≡ Is v → (numberFrom (Is 0) (c ∷ cs) ≡ Is v) × (c ≡ 48 → length cs ≡ 0)
+unfolding number pick
+number-parts c cs v e = go (eqb (length (c ∷ cs)) 0 || (eqb c 48 && ltb 1 (length (c ∷ cs)))) refl e
+  where
+    alone : (eqb (suc (length cs)) 0 || (eqb c 48 && ltb 1 (suc (length cs)))) ≡ false → c ≡ 48 → Dec (1 < suc (length cs)) → length cs ≡ 0
+    alone t z (yes h) =
+        let n = ne-eqb (suc (length cs)) 0 (λ q. omega arith) in
+        let x = eq-eqb c 48 z in
+        let y = lt-ltb 1 (suc (length cs)) h in
+        absurd (let k : true ≡ false = rw (n, x, y) at t in let w : _≡_ {A = ℕ} 0 1 = cc in omega arith)
+    alone t z (no h) = omega arith
+    go : (b : Bool) → (eqb (length (c ∷ cs)) 0 || (eqb c 48 && ltb 1 (length (c ∷ cs)))) ≡ b → pick b Bad (numberFrom (Is 0) (c ∷ cs)) ≡ Is v → (numberFrom (Is 0) (c ∷ cs) ≡ Is v) × (c ≡ 48 → length cs ≡ 0)
+    go true t q = absurd (let z : _≡_ {A = ℕ} 0 1 = cc in omega arith)
+    go false t q = (q, λ z. alone t z (decLt 1 (suc (length cs))))
+
+only-zero : (c : ℕ) (cs : List ℕ) (v : ℕ) → c ≡ 48 → length cs ≡ 0 → numberFrom (Is 0) (c ∷ cs) ≡ Is v → (c ∷ cs ≡ decimal v) × (v < 2 ^ 64)
+unfolding numberFrom digit
+only-zero c (d ∷ ds) v z h e = absurd (omega arith)
+only-zero c [] v z h e =
+    let d = added 0 c v e in
+    let y : v ≡ 0 = omega arith in
+    (rw (y, z) (sym (decimal-small 0 (omega arith))), omega arith)
+
+-- an accepted number is the decimal of its value
+pub number-written : (s : List ℕ) (v : ℕ) → number s ≡ Is v → (s ≡ decimal v) × (v < 2 ^ 64)
+unfolding number numberFrom digit pick
+number-written [] v e = absurd (let z : _≡_ {A = ℕ} 0 1 = cc in omega arith)
+number-written (c ∷ cs) v e = go (eqb c 48) refl
+  where
+    go : (b : Bool) → eqb c 48 ≡ b → (c ∷ cs ≡ decimal v) × (v < 2 ^ 64)
+    go true t = let p = number-parts c cs v e in only-zero c cs v (eqb-true c 48 t) (p .1 (eqb-true c 48 t)) (p .0)
+    go false t =
+        first-digit 0 c cs v (addDigit 0 c) refl (number-parts c cs v e .0) _ (λ w d q.
+          let n = eqb-false c 48 t in
+          let k : 1 ≤ w = least w d n in
+          let i = from-digits w cs v k (d .2) q in
+          let y : decimal w ≡ c ∷ [] = decimal-small w (omega arith) ∙ ap (λ (z : ℕ). z ∷ []) (omega arith) in
+          (sym (i .0 ∙ rw y), i .1))
+      where
+        least : (w : ℕ) → Digit 0 c w → (c ≡ 48 → ⊥) → 1 ≤ w
+        least w d n = by (decLt w 1)
+          where
+            by : Dec (w < 1) → 1 ≤ w
+            by (yes h) = absurd (n (omega arith))
+            by (no h) = omega arith
