@@ -1,8 +1,11 @@
+pub mod Accepted
 pub mod Cuts
 pub mod Decimals
 pub mod Elements
 pub mod Fields
 pub mod Fills
+pub mod Joins
+pub mod Lengths
 pub mod Lines
 pub mod Names
 pub mod Nodes

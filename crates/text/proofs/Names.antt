@@ -153,6 +153,15 @@ kinds-count : length kindNames ≡ 23
 unfolding kindNames
 kinds-count = refl
 
+short : (ns : List (List ℕ)) → fine ns ≡ true → (i : ℕ) → length (getD ns i []) ≤ 7
+unfolding fine
+short [] e i = omega arith
+short (n ∷ ns) e zero = let f = both (leb (length n) 7 && bytes n) (fine ns) e in leb-true (length n) 7 (both (leb (length n) 7) (bytes n) (f .0) .0)
+short (n ∷ ns) e (suc i) = short ns (both (leb (length n) 7 && bytes n) (fine ns) e .1) i
+
+pub kind-short : (i : ℕ) → length (getD kindNames i []) ≤ 7
+kind-short i = short kindNames kinds-fine i
+
 first-same : (n : ℕ) (p q : ℕ → Bool) → ((i : ℕ) → i < n → p i ≡ q i) → first n p ≡ first n q
 unfolding first
 first-same zero p q h = refl

@@ -9,3 +9,4 @@ pub mod Plain
 pub mod Field
 pub mod NodeLine
 pub mod Read
+pub mod TableText
