@@ -16,7 +16,7 @@ use Rattle.text.specs.Name.{same, wordName, addrName, nodeName, kindName
 use Rattle.text.specs.Rows.{rows}
 use Rattle.text.specs.Plain.{Plain, numberAt, kindAt, isPair, pairOf, isAddr, addrOf, isNode, nodeOf, lead, afterWord, plainRows, plainText}
 use Rattle.text.specs.Plain.Plain.{plain}
-use Rattle.text.specs.TableText.{textOf, ended, pairRow, addrRow, nodeRow, rowsOf, tableRows, tableText, Addr, Node, All, Written}
+use Rattle.text.specs.TableText.{textOf, ended, pairRow, addrRow, nodeRow, rowsOf, tableRows, tableText, AddrRecord, NodeRecord, All, IsTable}
 use Rattle.text.proofs.Names.{same-eq}
 use Rattle.text.proofs.Numbers.{number-written}
 use Rattle.text.proofs.Joins.{joined-rows}
@@ -55,7 +55,7 @@ pair-written name r e =
     let n = valid-written (getD r 1 []) (number (getD r 1 [])) refl (e₁ .1) in
     (q ∙ rw (← f, ← n .0), n .1)
 
-addr-written : (i : ℕ) (r : List (List ℕ)) → isAddr i r ≡ true → (r ≡ addrRow i (addrOf r)) × Addr (addrOf r)
+addr-written : (i : ℕ) (r : List (List ℕ)) → isAddr i r ≡ true → (r ≡ addrRow i (addrOf r)) × AddrRecord (addrOf r)
 unfolding isAddr addrRow addrOf
 addr-written i r e = let p = pair-written addrName r e in (p .0, (refl, p .1))
 
@@ -65,7 +65,7 @@ unfolding placeOf isNamed
 kind-written s h = sym (same-eq (getD kindNames (placeOf s) []) s (first-true (isNamed s) 23 h))
 
 -- a node's line
-node-written : (i : ℕ) (r : List (List ℕ)) → isNode i r ≡ true → (r ≡ nodeRow i (nodeOf r)) × Node (nodeOf r)
+node-written : (i : ℕ) (r : List (List ℕ)) → isNode i r ≡ true → (r ≡ nodeRow i (nodeOf r)) × NodeRecord (nodeOf r)
 unfolding isNode nodeOf numberAt kindAt nodeRow
 node-written i r e =
     let e₇ = both _ (valid (numberAt r 7)) e in
@@ -86,10 +86,9 @@ node-written i r e =
     let n₄ = valid-written (getD r 4 []) (number (getD r 4 [])) refl (e₄ .1) in
     let n₅ = valid-written (getD r 5 []) (number (getD r 5 [])) refl (e₅ .1) in
     let n₆ = valid-written (getD r 6 []) (number (getD r 6 [])) refl (e₆ .1) in
-    let n₇ = valid-written (getD r 7 []) (number (getD r 7 [])) refl (e₇ .1) in
-    (
+    let n₇ = valid-written (getD r 7 []) (number (getD r 7 [])) refl (e₇ .1) in (
       eight r (eqb-true (length r) 8 (e₀ .0))
-      ∙ rw (z, ← kind-written (getD r 2 []) k) (eight-same (sym n₀) (n₁ .0 ∙ ap decimal m) refl (n₃ .0) (n₄ .0) (n₅ .0) (n₆ .0) (n₇ .0)),
+          ∙ rw (z, ← kind-written (getD r 2 []) k) (eight-same (sym n₀) (n₁ .0 ∙ ap decimal m) refl (n₃ .0) (n₄ .0) (n₅ .0) (n₆ .0) (n₇ .0)),
       record { six = refl; kind = (omega arith, omega arith); width = n₃ .1; a = n₄ .1; b = n₅ .1; c = n₆ .1; imm = n₇ .1 },
     )
   where
@@ -121,12 +120,12 @@ module _ (j k : ℕ) where
     abbrev ns : List (List ℕ)
     ns = lead isNode nodeOf k 1 (drop (length xs) rs)
 
-    after-written : isPair wordName r ≡ true → length rs ≤ length xs + length ns → (r ∷ rs ≡ tableRows (pairOf r) xs ns) × Written j k (pairOf r) xs ns
+    after-written : isPair wordName r ≡ true → length rs ≤ length xs + length ns → (r ∷ rs ≡ tableRows (pairOf r) xs ns) × IsTable j k (pairOf r) xs ns
     unfolding tableRows Leads
     after-written e h =
         let p = pair-written wordName r e in
-        let a = lead-written isAddr addrOf addrRow Addr addr-written j 1 rs in
-        let n = lead-written isNode nodeOf nodeRow Node node-written k 1 (drop (length xs) rs) in
+        let a = lead-written isAddr addrOf addrRow AddrRecord addr-written j 1 rs in
+        let n = lead-written isNode nodeOf nodeRow NodeRecord node-written k 1 (drop (length xs) rs) in
         let l : length (drop (length xs) rs) ≡ length rs - length xs = length-drop (length xs) rs in
         let d : length (drop (length xs) rs) ≤ length ns = omega arith in
         let z : drop (length ns) (drop (length xs) rs) ≡ [] = drop-of-length-le (drop (length xs) rs) d in
@@ -135,26 +134,27 @@ module _ (j k : ℕ) where
         let f = p .0 in
         (cc, record { word = p .1; few = a .1; addrs = a .2; some = n .1; nodes = n .2 })
 
-  rows-accepted : (R : List (List (List ℕ))) (v : ℕ) (us ms : List (List ℕ)) → plainRows j k R ≡ plain true v us ms → (R ≡ tableRows v us ms) × Written j k v us ms
+  rows-accepted : (R : List (List (List ℕ))) (v : ℕ) (us ms : List (List ℕ)) → plainRows j k R ≡ plain true v us ms → (R ≡ tableRows v us ms) × IsTable j k v us ms
   unfolding plainRows afterWord pick
   rows-accepted [] v us ms e = absurd (let z : _≡_ {A = ℕ} 0 1 = cc in omega arith)
   rows-accepted (r ∷ rs) v us ms e = go (isPair wordName r) refl e
     where
       -- the parts of an answer
-      same-parts : (b : Bool) (w : ℕ) (as′ bs : List (List ℕ)) → plain b w as′ bs ≡ plain true v us ms → (r ∷ rs ≡ tableRows w as′ bs) × Written j k w as′ bs → (r ∷ rs ≡ tableRows v us ms) × Written j k v us ms
+      same-parts : (b : Bool) (w : ℕ) (as′ bs : List (List ℕ)) → plain b w as′ bs ≡ plain true v us ms → (r ∷ rs ≡ tableRows w as′ bs) × IsTable j k w as′ bs → (r ∷ rs ≡ tableRows v us ms) × IsTable j k v us ms
       same-parts b w as′ bs q h =
           let q₁ : w ≡ v = cc in
           let q₂ : as′ ≡ us = cc in
           let q₃ : bs ≡ ms = cc in
           rw (q₁, q₂, q₃) at h
-      go : (b : Bool) → isPair wordName r ≡ b → pick b (plain (leb (length rs) (length (xs r rs) + length (ns r rs))) (pairOf r) (xs r rs) (ns r rs)) (plain false 0 [] []) ≡ plain true v us ms → (r ∷ rs ≡ tableRows v us ms) × Written j k v us ms
+
+      go : (b : Bool) → isPair wordName r ≡ b → pick b (plain (leb (length rs) (length (xs r rs) + length (ns r rs))) (pairOf r) (xs r rs) (ns r rs)) (plain false 0 [] []) ≡ plain true v us ms → (r ∷ rs ≡ tableRows v us ms) × IsTable j k v us ms
       go true t q =
           let l : leb (length rs) (length (xs r rs) + length (ns r rs)) ≡ true = cc in
           same-parts _ _ _ _ q (after-written r rs t (leb-true (length rs) (length (xs r rs) + length (ns r rs)) l))
       go false t q = absurd (let z : _≡_ {A = ℕ} 0 1 = cc in omega arith)
 
   -- an accepted text is the text of its table, but for a missing last newline
-  pub accepted : (x : List ℕ) (w : ℕ) (xs ns : List (List ℕ)) → plainText j k x ≡ plain true w xs ns → (ended x ≡ tableText w xs ns) × Written j k w xs ns
+  pub accepted : (x : List ℕ) (w : ℕ) (xs ns : List (List ℕ)) → plainText j k x ≡ plain true w xs ns → (ended x ≡ tableText w xs ns) × IsTable j k w xs ns
   unfolding plainText tableText
   accepted x w us ms e =
       let h = rows-accepted (rows x) w us ms e in

@@ -29,45 +29,47 @@ pub rows-none : (x : List ℕ) (p : ℕ) → length x ≤ p → rows (drop p x) 
 unfolding rows lines eachFields
 rows-none x p h = rw (drop-of-length-le x h)
 
-module _ (size : ℕ) (good : ℕ → List (List ℕ) → Bool) (of : List (List ℕ) → List ℕ) (b : List ℕ) (n : ℕ) where
-  lead-full : (j i : ℕ) (rs : List (List (List ℕ))) → j ≡ 0 → lead good of j i rs ≡ []
+-- the leading lines, one by one
+module _ (good : ℕ → List (List ℕ) → Bool) (of : List (List ℕ) → List ℕ) where
+  pub lead-full : (j i : ℕ) (rs : List (List (List ℕ))) → j ≡ 0 → lead good of j i rs ≡ []
   unfolding lead
   lead-full zero i rs e = refl
   lead-full (suc j) i rs e = absurd (omega arith)
 
-  lead-none : (j i : ℕ) → lead good of j i [] ≡ []
+  pub lead-none : (j i : ℕ) → lead good of j i [] ≡ []
   unfolding lead
   lead-none zero i = refl
   lead-none (suc j) i = refl
 
-  lead-bad : (j i : ℕ) (r : List (List ℕ)) (rs : List (List (List ℕ))) → good i r ≡ false → lead good of j i (r ∷ rs) ≡ []
+  pub lead-bad : (j i : ℕ) (r : List (List ℕ)) (rs : List (List (List ℕ))) → good i r ≡ false → lead good of j i (r ∷ rs) ≡ []
   unfolding lead pick
   lead-bad zero i r rs e = refl
   lead-bad (suc j) i r rs e = rw e
 
-  lead-more : (j k i : ℕ) (r : List (List ℕ)) (rs : List (List (List ℕ))) → j ≡ suc k → good i r ≡ true → lead good of j i (r ∷ rs) ≡ of r ∷ lead good of k (suc i) rs
+  pub lead-more : (j k i : ℕ) (r : List (List ℕ)) (rs : List (List (List ℕ))) → j ≡ suc k → good i r ≡ true → lead good of j i (r ∷ rs) ≡ of r ∷ lead good of k (suc i) rs
   unfolding lead pick
   lead-more j k i r rs q e = rw (q, e)
 
+module _ (size : ℕ) (good : ℕ → List (List ℕ) → Bool) (of : List (List ℕ) → List ℕ) (b : List ℕ) (n : ℕ) where
   stop : (rs : List (List (List ℕ))) → lead good of (length b / size - n) (n + 1) rs ≡ [] → filled b n rs ≡ fill size good of b n rs
   unfolding fill flat
   stop rs e = let z : n + 0 ≡ n = omega arith in rw (e, z)
 
   pub fill-full : (rs : List (List (List ℕ))) → length b / size ≤ n → filled b n rs ≡ fill size good of b n rs
-  fill-full rs h = stop rs (lead-full (length b / size - n) (n + 1) rs (omega arith))
+  fill-full rs h = stop rs (lead-full good of (length b / size - n) (n + 1) rs (omega arith))
 
   pub fill-none : filled b n [] ≡ fill size good of b n []
-  fill-none = stop [] (lead-none (length b / size - n) (n + 1))
+  fill-none = stop [] (lead-none good of (length b / size - n) (n + 1))
 
   pub fill-bad : (r : List (List ℕ)) (rs : List (List (List ℕ))) → good (n + 1) r ≡ false → filled b n (r ∷ rs) ≡ fill size good of b n (r ∷ rs)
-  fill-bad r rs e = stop (r ∷ rs) (lead-bad (length b / size - n) (n + 1) r rs e)
+  fill-bad r rs e = stop (r ∷ rs) (lead-bad good of (length b / size - n) (n + 1) r rs e)
 
   pub fill-more : (r : List (List ℕ)) (rs : List (List (List ℕ))) → n < length b / size → good (n + 1) r ≡ true → size * n + length (of r) ≡ size * (n + 1)
       → fill size good of (sets b (size * n) (of r)) (n + 1) rs ≡ fill size good of b n (r ∷ rs)
   unfolding fill flat
   fill-more r rs h e q =
       let j : length b / size - n ≡ suc (length b / size - (n + 1)) = omega arith in
-      let l = lead-more (length b / size - n) (length b / size - (n + 1)) (n + 1) r rs j e in
+      let l = lead-more good of (length b / size - n) (length b / size - (n + 1)) (n + 1) r rs j e in
       let c : suc (n + 1) ≡ n + 1 + 1 = omega arith in
       let k : (ls : List (List ℕ)) → n + 1 + length ls ≡ n + suc (length ls) = λ ls. omega arith in
       rw (l, length-sets b (size * n) (of r), c, sets-append (of r) _ b (size * n), q, k _)

@@ -13,7 +13,7 @@ use Rattle.text.specs.Name.{wordName, addrName, nodeName, kindNames}
 use Rattle.text.specs.Plain.{Plain, plainText}
 use Rattle.text.specs.Plain.Plain.{plain}
 use Rattle.text.specs.Read.{answerOf}
-use Rattle.text.specs.TableText.{joined, textOf, ended, pairRow, addrRow, nodeRow, rowsOf, tableRows, tableText, Addr, Node, All, Written, longest}
+use Rattle.text.specs.TableText.{joined, textOf, ended, pairRow, addrRow, nodeRow, rowsOf, tableRows, tableText, AddrRecord, NodeRecord, All, IsTable, longest}
 use Rattle.text.proofs.Decimals.{decimal-length}
 use Rattle.text.proofs.Names.{kind-short}
 use Rattle.text.proofs.Accepted.{accepted}
@@ -32,11 +32,11 @@ pair-length : (name : List ℕ) (v : ℕ) → v < 2 ^ 64 → length (joined (pai
 unfolding joined pairRow
 pair-length name v h = let d : length (decimal v) ≤ 20 = decimal-length 19 v (omega arith) in rw (length-append name (9 ∷ decimal v)) (omega arith)
 
-addr-length : (i : ℕ) (r : List ℕ) → Addr r → length (joined (addrRow i r)) ≤ 25
+addr-length : (i : ℕ) (r : List ℕ) → AddrRecord r → length (joined (addrRow i r)) ≤ 25
 unfolding addrRow addrName
 addr-length i r a = omega (arith, pair-length addrName (getD r 0 0) (a .1))
 
-node-length : (i : ℕ) (r : List ℕ) → i < 2 ^ 64 → Node r → length (joined (nodeRow i r)) ≤ 138
+node-length : (i : ℕ) (r : List ℕ) → i < 2 ^ 64 → NodeRecord r → length (joined (nodeRow i r)) ≤ 138
 unfolding joined nodeRow nodeName
 node-length i r h n =
     let d₁ : length (decimal i) ≤ 20 = decimal-length 19 i (omega arith) in
@@ -57,12 +57,12 @@ module _ (line : ℕ → List ℕ → List (List ℕ)) (P : List ℕ → Type 0)
       let q = rows-length (suc i) ls rs (omega arith) (a .1) in
       rw (length-append (joined (line i r)) (10 ∷ textOf (rowsOf line (suc i) ls ++ rs))) (omega arith)
 
-table-length : (j k w : ℕ) (xs ns : List (List ℕ)) → k < 2 ^ 64 - 1 → Written j k w xs ns → length (tableText w xs ns) ≤ longest j k
+table-length : (j k w : ℕ) (xs ns : List (List ℕ)) → k < 2 ^ 64 - 1 → IsTable j k w xs ns → length (tableText w xs ns) ≤ longest j k
 unfolding tableText tableRows textOf wordName
 table-length j k w xs ns h t =
     let p = pair-length wordName w (t .word) in
-    let a = rows-length addrRow Addr 25 (1 + length xs) (λ i r l. addr-length i r) 1 xs (rowsOf nodeRow 1 ns) (omega arith) (t .addrs) in
-    let n = rows-length nodeRow Node 138 (2 ^ 64) (λ i r l. node-length i r l) 1 ns [] (omega (arith, t .some)) (t .nodes) in
+    let a = rows-length addrRow AddrRecord 25 (1 + length xs) (λ i r l. addr-length i r) 1 xs (rowsOf nodeRow 1 ns) (omega arith) (t .addrs) in
+    let n = rows-length nodeRow NodeRecord 138 (2 ^ 64) (λ i r l. node-length i r l) 1 ns [] (omega (arith, t .some)) (t .nodes) in
     let m : length (textOf (rowsOf nodeRow 1 ns)) ≤ length ns * 139 + 0 = rw (append-nil (rowsOf nodeRow 1 ns)) at n in
     rw (length-append (joined (pairRow wordName w)) (10 ∷ textOf (rowsOf addrRow 1 xs ++ rowsOf nodeRow 1 ns))) (omega (arith, t .few, t .some))
 

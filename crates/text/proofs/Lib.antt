@@ -1,4 +1,5 @@
 pub mod Accepted
+pub mod Clean
 pub mod Cuts
 pub mod Decimals
 pub mod Elements
@@ -12,7 +13,10 @@ pub mod Nodes
 pub mod Numbers
 pub mod Pairs
 pub mod Puts
+pub mod ReadBack
 pub mod Readings
 pub mod Rooms
+pub mod Sizes
 pub mod Texts
+pub mod Unique
 pub mod Writes

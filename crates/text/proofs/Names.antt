@@ -162,6 +162,27 @@ short (n ∷ ns) e (suc i) = short ns (both (leb (length n) 7 && bytes n) (fine 
 pub kind-short : (i : ℕ) → length (getD kindNames i []) ≤ 7
 kind-short i = short kindNames kinds-fine i
 
+-- each kind's name stands at its own place
+unfoldable places : ℕ → Bool
+places zero = true
+places (suc n) = eqb (placeOf (getD kindNames n [])) n && places n
+
+places-right : places 23 ≡ true
+unfolding places placeOf isNamed same kindNames first pick
+places-right = refl
+
+place-at : (n i : ℕ) → places n ≡ true → i < n → placeOf (getD kindNames i []) ≡ i
+unfolding places
+place-at zero i e h = absurd (omega arith)
+place-at (suc n) i e h = go (decLt i n) (both (eqb (placeOf (getD kindNames n [])) n) (places n) e) (λ l p. place-at n i p l)
+  where
+    go : Dec (i < n) → (eqb (placeOf (getD kindNames n [])) n ≡ true) × (places n ≡ true) → (i < n → places n ≡ true → placeOf (getD kindNames i []) ≡ i) → placeOf (getD kindNames i []) ≡ i
+    go (yes l) p k = k l (p .1)
+    go (no l) p k = let q : i ≡ n = omega arith in rw q (eqb-true (placeOf (getD kindNames n [])) n (p .0))
+
+pub kind-place : (i : ℕ) → i < 23 → placeOf (getD kindNames i []) ≡ i
+kind-place i h = place-at 23 i places-right h
+
 first-same : (n : ℕ) (p q : ℕ → Bool) → ((i : ℕ) → i < n → p i ≡ q i) → first n p ≡ first n q
 unfolding first
 first-same zero p q h = refl

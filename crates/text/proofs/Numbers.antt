@@ -148,10 +148,10 @@ unfolding numberFrom digit
 from-digits u [] v h l e = let w : v ≡ u = cc in (rw w (sym (append-nil (decimal u))), omega arith)
 from-digits u (c ∷ cs) v h l e =
     first-digit u c cs v (addDigit u c) refl e _ (λ w d q.
-      let i = from-digits w cs v (omega arith) (d .2) q in
-      let z : 48 + (c - 48) ≡ c = omega arith in
-      let m : decimal w ≡ decimal u ++ (c ∷ []) = rw (d .3, decimal-more u (c - 48) h (omega arith), z) in
-      (i .0 ∙ rw m (append-assoc (decimal u) (c ∷ []) cs), i .1))
+    let i = from-digits w cs v (omega arith) (d .2) q in
+    let z : 48 + (c - 48) ≡ c = omega arith in
+    let m : decimal w ≡ decimal u ++ (c ∷ []) = rw (d .3, decimal-more u (c - 48) h (omega arith), z) in
+    (i .0 ∙ rw m (append-assoc (decimal u) (c ∷ []) cs), i .1))
 
 -- some digits, and no zero before others
 number-parts : (c : ℕ) (cs : List ℕ) (v : ℕ) → number (c ∷ cs) ≡ Is v → (numberFrom (Is 0) (c ∷ cs) ≡ Is v) × (c ≡ 48 → length cs ≡ 0)
@@ -165,6 +165,7 @@ number-parts c cs v e = go (eqb (length (c ∷ cs)) 0 || (eqb c 48 && ltb 1 (len
         let y = lt-ltb 1 (suc (length cs)) h in
         absurd (let k : true ≡ false = rw (n, x, y) at t in let w : _≡_ {A = ℕ} 0 1 = cc in omega arith)
     alone t z (no h) = omega arith
+
     go : (b : Bool) → (eqb (length (c ∷ cs)) 0 || (eqb c 48 && ltb 1 (length (c ∷ cs)))) ≡ b → pick b Bad (numberFrom (Is 0) (c ∷ cs)) ≡ Is v → (numberFrom (Is 0) (c ∷ cs) ≡ Is v) × (c ≡ 48 → length cs ≡ 0)
     go true t q = absurd (let z : _≡_ {A = ℕ} 0 1 = cc in omega arith)
     go false t q = (q, λ z. alone t z (decLt 1 (suc (length cs))))
@@ -187,11 +188,11 @@ number-written (c ∷ cs) v e = go (eqb c 48) refl
     go true t = let p = number-parts c cs v e in only-zero c cs v (eqb-true c 48 t) (p .1 (eqb-true c 48 t)) (p .0)
     go false t =
         first-digit 0 c cs v (addDigit 0 c) refl (number-parts c cs v e .0) _ (λ w d q.
-          let n = eqb-false c 48 t in
-          let k : 1 ≤ w = least w d n in
-          let i = from-digits w cs v k (d .2) q in
-          let y : decimal w ≡ c ∷ [] = decimal-small w (omega arith) ∙ ap (λ (z : ℕ). z ∷ []) (omega arith) in
-          (sym (i .0 ∙ rw y), i .1))
+        let n = eqb-false c 48 t in
+        let k : 1 ≤ w = least w d n in
+        let i = from-digits w cs v k (d .2) q in
+        let y : decimal w ≡ c ∷ [] = decimal-small w (omega arith) ∙ ap (λ (z : ℕ). z ∷ []) (omega arith) in
+        (sym (i .0 ∙ rw y), i .1))
       where
         least : (w : ℕ) → Digit 0 c w → (c ≡ 48 → ⊥) → 1 ≤ w
         least w d n = by (decLt w 1)

@@ -52,10 +52,10 @@ ended (c ∷ []) = pick (eqb c 10) (c ∷ []) (c ∷ 10 ∷ [])
 ended (c ∷ d ∷ cs) = c ∷ ended (d ∷ cs)
 
 -- records as they are read: an address below 2^64; a kind of 1 to 23 and five numbers below 2^64
-abbrev pub Addr : List ℕ → Type 0
-Addr r = (length r ≡ 1) × (getD r 0 0 < 2 ^ 64)
+abbrev pub AddrRecord : List ℕ → Type 0
+AddrRecord r = (length r ≡ 1) × (getD r 0 0 < 2 ^ 64)
 
-pub record Node (r : List ℕ) : Type 0 where
+pub record NodeRecord (r : List ℕ) : Type 0 where
   pub six : length r ≡ 6
   pub kind : (1 ≤ getD r 0 0) × (getD r 0 0 ≤ 23)
   pub width : getD r 1 0 < 2 ^ 64
@@ -69,12 +69,12 @@ All P [] = Unit {0}
 All P (r ∷ rs) = P r × All P rs
 
 -- a word width, at most j addresses, at most k nodes
-pub record Written (j k w : ℕ) (xs ns : List (List ℕ)) : Type 0 where
+pub record IsTable (j k w : ℕ) (xs ns : List (List ℕ)) : Type 0 where
   pub word : w < 2 ^ 64
   pub few : length xs ≤ j
-  pub addrs : All Addr xs
+  pub addrs : All AddrRecord xs
   pub some : length ns ≤ k
-  pub nodes : All Node ns
+  pub nodes : All NodeRecord ns
 
 -- no text of at most j addresses and k nodes is longer: a line of a name and a number has at most 26 bytes, a node's line 139
 abbrev pub longest : ℕ → ℕ → ℕ

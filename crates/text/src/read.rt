@@ -15,6 +15,9 @@ ghost use Rattle.text.specs.Read.{addrSize, nodeSize, fill, readText};
 ghost use Rattle.text.specs.Read.Filled.{filled};
 ghost use Rattle.text.specs.Read.Stored.{stored};
 
+// No text of 64 addresses and 512 nodes at most is longer, so a program needs to read one byte more and nothing beyond.
+pub const LONGEST: usize = 72858;
+
 // Numbers of a node's record.
 const NODE_SIZE: usize = 6;
 

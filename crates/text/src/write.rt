@@ -9,6 +9,9 @@ ghost use Rattle.text.specs.Put.{put};
 ghost use Rattle.text.specs.Put.Text.{text};
 ghost use Rattle.text.specs.Write.{gateSize, constraintSize, gateCount, constraintCount, gateLine, bitsLine, constraintLine, doneLine, refusedLine, each, output, Offsets, outputRoom, refusedRoom, Written};
 
+// Bytes that are always enough for 4,096 gates, 512 nodes, 16,384 map places and 8,192 constraints.
+pub const ROOM: usize = 750639;
+
 // Numbers of a gate record, and of a constraint.
 const GATE_SIZE: usize = 4;
 
