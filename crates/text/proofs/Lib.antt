@@ -16,6 +16,7 @@ pub mod Puts
 pub mod ReadBack
 pub mod Readings
 pub mod Rooms
+pub mod Samples
 pub mod Sizes
 pub mod Texts
 pub mod Unique
