@@ -6,9 +6,10 @@ use Prim.Native.Nat.{ℕ, zero, suc, _+_, _-_, _*_, _/_, _≤_, _<_}
 use native.Mathlib.Omega.{arith}
 use native.Mathlib.Nat.{mul-zero}
 use native.Mathlib.Numerals.{add-one}
-use lib.ListN.{length, getD, set, drop, drop-of-length-le}
-use lib.Seq.{sets, length-sets, drop-cons}
+use lib.ListN.{length, getD, set, drop, length-append, drop-of-length-le}
+use lib.Seq.{sets, sets-eq, length-sets, drop-cons}
 use Rattle.loops.specs.Loop.{pick}
+use Rattle.text.specs.Over.{over}
 use Rattle.text.specs.Rows.{rows, lines, eachFields}
 use Rattle.text.specs.Plain.{lead}
 use Rattle.text.specs.Read.{flat, fill, Filled}
@@ -74,14 +75,30 @@ module _ (size : ℕ) (good : ℕ → List (List ℕ) → Bool) (of : List (List
       let k : (ls : List (List ℕ)) → n + 1 + length ls ≡ n + suc (length ls) = λ ls. omega arith in
       rw (l, length-sets b (size * n) (of r), c, sets-append (of r) _ b (size * n), q, k _)
 
--- from an empty buffer on
-pub fill-first : (size : ℕ) (good : ℕ → List (List ℕ) → Bool) (of : List (List ℕ) → List ℕ) (b c : List ℕ) (m : ℕ) (rs qs : List (List (List ℕ))) → filled c m qs ≡ fill size good of b 0 rs
-    → (c ≡ sets b 0 (flat (lead good of (length b / size) 1 rs))) × (m ≡ length (lead good of (length b / size) 1 rs)) × (qs ≡ drop (length (lead good of (length b / size) 1 rs)) rs)
-unfolding fill
-fill-first size good of b c m rs qs e =
-    let z : size * 0 ≡ 0 = mul-zero size in
-    let y : length b / size - 0 ≡ length b / size = omega arith in
-    let ls : List (List ℕ) = lead good of (length b / size) 1 rs in
-    let w : 0 + length ls ≡ length ls = omega arith in
-    let q : filled c m qs ≡ filled (sets b 0 (flat ls)) (length ls) (drop (length ls) rs) = rw (z, y, w) at e in
-    (cc, cc, cc)
+-- the records of the leading lines have room
+module _ (good : ℕ → List (List ℕ) → Bool) (of : List (List ℕ) → List ℕ) (size : ℕ) (sized : (r : List (List ℕ)) → length (of r) ≡ size) where
+  lead-length : (j i : ℕ) (rs : List (List (List ℕ))) → (length (flat (lead good of j i rs)) ≡ length (lead good of j i rs) * size) × (length (lead good of j i rs) ≤ j)
+  unfolding lead flat pick
+  lead-length zero i rs = (omega arith, omega arith)
+  lead-length (suc j) i [] = (omega arith, omega arith)
+  lead-length (suc j) i (r ∷ rs) = go (good i r) (lead good of j (suc i) rs) (lead-length j (suc i) rs)
+    where
+      go : (b : Bool) (ls : List (List ℕ)) → (length (flat ls) ≡ length ls * size) × (length ls ≤ j) → (length (flat (pick b (of r ∷ ls) [])) ≡ length (pick b (of r ∷ ls) []) * size) × (length (pick b (of r ∷ ls) []) ≤ suc j)
+      go true ls h = (rw (length-append (of r) (flat ls), sized r) (omega arith), omega arith)
+      go false ls h = (omega arith, omega arith)
+
+  -- from an empty buffer on
+  pub fill-first : (b c : List ℕ) (m : ℕ) (rs qs : List (List (List ℕ))) → ((n : ℕ) → n ≤ length b / size → n * size ≤ length b) → filled c m qs ≡ fill size good of b 0 rs
+      → (c ≡ over (flat (lead good of (length b / size) 1 rs)) b) × (m ≡ length (lead good of (length b / size) 1 rs)) × (qs ≡ drop (length (lead good of (length b / size) 1 rs)) rs)
+  unfolding fill
+  fill-first b c m rs qs room e =
+      let z : size * 0 ≡ 0 = mul-zero size in
+      let y : length b / size - 0 ≡ length b / size = omega arith in
+      let ls : List (List ℕ) = lead good of (length b / size) 1 rs in
+      let w : 0 + length ls ≡ length ls = omega arith in
+      let v : 0 + length (flat ls) ≡ length (flat ls) = omega arith in
+      let q : filled c m qs ≡ filled (sets b 0 (flat ls)) (length ls) (drop (length ls) rs) = rw (z, y, w) at e in
+      let l = lead-length (length b / size) 1 rs in
+      let k : length (flat ls) ≤ length b = omega (arith, l .0, room (length ls) (l .1)) in
+      let s : c ≡ sets b 0 (flat ls) = cc in
+      (s ∙ rw v at (sets-eq (flat ls) b 0 (omega arith)), cc, cc)

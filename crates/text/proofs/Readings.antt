@@ -32,6 +32,10 @@ pub addr-key : key addrName ≡ 6214149217
 unfolding key pack pick addrName
 addr-key = refl
 
+pub addr-one : (r : List (List ℕ)) → length (addrOf r) ≡ addrSize
+unfolding addrOf
+addr-one r = refl
+
 pub node-six : (r : List (List ℕ)) → length (nodeOf r) ≡ nodeSize
 unfolding nodeOf
 node-six r = refl

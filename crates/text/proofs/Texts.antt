@@ -6,7 +6,7 @@ use Prim.Native.Nat.{ℕ, zero, suc, _+_, _-_, _*_, _/_, _≤_, _<_}
 use native.Mathlib.Omega.{arith}
 use lib.Dec.{leb}
 use lib.ListN.{length, drop, length-drop}
-use lib.Seq.{sets}
+use Rattle.text.specs.Over.{over}
 use borrow.Author.Tests.{le-leb, lt-leb}
 use Rattle.loops.specs.Loop.{pick}
 use Rattle.text.specs.declared.field.Field.{Field}
@@ -26,7 +26,7 @@ use Rattle.text.proofs.Names.{word-fine}
 use Rattle.text.proofs.Cuts.{row, rest, rows-split}
 use Rattle.text.proofs.Pairs.{pair-good, pair-value}
 use Rattle.text.proofs.Fills.{rows-at, rows-none, fill-first}
-use Rattle.text.proofs.Readings.{Addrs, Nodes, word-key}
+use Rattle.text.proofs.Readings.{Addrs, Nodes, word-key, addr-one, node-six}
 
 no-word : (j k : ℕ) (x : List ℕ) → isPair wordName (row x) ≡ false → plainText j k x ≡ plain false 0 [] []
 unfolding plainText plainRows rows lines eachFields pick
@@ -89,11 +89,11 @@ module _ (x a b : List ℕ) (w : Below 256 x) (f : Field) (e : f ≡ pairLine x 
         let v = pair-value x w wordName word-fine 0 (omega arith) (ap (λ (k : Field). k .good) (sym is-line) ∙ g) in
         (ap (λ (k : Field). k .value) is-line ∙ v .0, ap (λ (k : Field). drop (k .next) x) is-line ∙ v .1)
 
-    addrs-first : (a′ ≡ sets a 0 (flat xs)) × (n ≡ length xs) × (rows (drop p x) ≡ drop (length xs) rs)
-    addrs-first = fill-first addrSize isAddr addrOf a a′ n rs (rows (drop p x)) (rw (value-rest .1) at e₁)
+    addrs-first : (a′ ≡ over (flat xs) a) × (n ≡ length xs) × (rows (drop p x) ≡ drop (length xs) rs)
+    addrs-first = fill-first isAddr addrOf addrSize addr-one a a′ n rs (rows (drop p x)) (λ k h. omega arith) (rw (value-rest .1) at e₁)
 
-    nodes-first : (b′ ≡ sets b 0 (flat ns)) × (m ≡ length ns) × (rows (drop q x) ≡ drop (length ns) (drop (length xs) rs))
-    nodes-first = fill-first nodeSize isNode nodeOf b b′ m (drop (length xs) rs) (rows (drop q x)) (rw (addrs-first .2) at e₂)
+    nodes-first : (b′ ≡ over (flat ns) b) × (m ≡ length ns) × (rows (drop q x) ≡ drop (length ns) (drop (length xs) rs))
+    nodes-first = fill-first isNode nodeOf nodeSize node-six b b′ m (drop (length xs) rs) (rows (drop q x)) (λ k h. omega arith) (rw (addrs-first .2) at e₂)
 
     whole : readText x a b ≡ storedOf a b (plain (leb (length rs) (length xs + length ns)) (pairOf (row x)) xs ns)
     unfolding readText afterWord

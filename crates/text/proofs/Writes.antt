@@ -5,7 +5,7 @@ use Prim.Native.Nat.{ℕ, zero, suc, _+_, _≤_, _<_}
 use native.Mathlib.Omega.{arith}
 use native.Mathlib.Numerals.{add-one}
 use lib.ListN.{length, getD}
-use lib.Seq.{sets}
+use lib.Seq.{sets, sets-eq}
 use borrow.Author.Tests.{eq-eqb, ne-eqb}
 use Rattle.loops.specs.Loop.{pick}
 use Rattle.text.specs.Line.{line}
@@ -48,7 +48,9 @@ pub room-put : (l bs m : List ℕ) (r : ℕ) → length bs ≤ length l → text
 room-put l bs m r h e =
     let z : 0 + length bs ≡ length bs = omega arith in
     let q : text m r ≡ text (sets l 0 bs) (length bs) = rw z at (e ∙ put-room bs l 0 (omega arith)) in
-    (cc, cc)
+    let n : r ≡ length bs = cc in
+    let s : m ≡ sets l 0 bs = cc in
+    (n, s ∙ rw z at (sets-eq bs l 0 (omega arith)))
 
 pub written : (gates map offsets marks cs l m₁ : List ℕ) (r₁ : ℕ) (m₂ : List ℕ) (r₂ : ℕ) (m₃ : List ℕ) (r₃ : ℕ) (m : List ℕ) (r : ℕ)
     → length (output gates map offsets marks cs) ≤ length l

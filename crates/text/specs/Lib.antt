@@ -1,5 +1,6 @@
 pub mod Number
 pub mod Line
+pub mod Over
 pub mod Put
 pub mod Write
 pub mod Name

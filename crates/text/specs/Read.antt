@@ -6,6 +6,7 @@ use lib.ListN.{length, drop}
 use lib.Seq.{sets}
 use Rattle.text.specs.declared.read.Read.{Read}
 use Rattle.text.specs.declared.read.Read.the-variants.{Refused, Table}
+use Rattle.text.specs.Over.{over}
 use Rattle.text.specs.Plain.{Plain, lead, isAddr, addrOf, isNode, nodeOf, plainText}
 use Rattle.text.specs.Plain.Plain.{plain}
 
@@ -31,7 +32,7 @@ pub data Stored : Type 0 where
 
 -- the records from the buffers' beginnings on; where the text is no table's, those of the lines before the first that is at fault
 unfoldable pub storedOf : List ℕ → List ℕ → Plain → Stored
-storedOf a b (plain g w xs ns) = stored (answerOf (plain g w xs ns)) (sets a 0 (flat xs)) (sets b 0 (flat ns))
+storedOf a b (plain g w xs ns) = stored (answerOf (plain g w xs ns)) (over (flat xs) a) (over (flat ns) b)
 
 -- as many addresses and nodes as the buffers have room for
 unfoldable pub readText : List ℕ → List ℕ → List ℕ → Stored

@@ -4,8 +4,8 @@ use mathlib.Core.List.{List, [], _∷_, _++_}
 use Prim.Native.Nat.{ℕ, zero, suc, _+_, _-_, _*_, _/_, _≤_, _<_}
 use lib.Dec.{eqb}
 use lib.ListN.{length, getD, take, drop}
-use lib.Seq.{sets}
 use Rattle.loops.specs.Loop.{pick}
+use Rattle.text.specs.Over.{over}
 use Rattle.text.specs.Line.{line}
 
 -- numbers of a gate record, and of a constraint
@@ -95,4 +95,4 @@ refusedRoom = 50
 
 -- the bytes stand at the beginning of the buffer, which is else as before, and the answer is how many they are
 abbrev pub Written : List ℕ → List ℕ → List ℕ → ℕ → Type 0
-Written before bytes after count = (count ≡ length bytes) × (after ≡ sets before 0 bytes)
+Written before bytes after count = (count ≡ length bytes) × (after ≡ over bytes before)
