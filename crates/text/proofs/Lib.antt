@@ -1,4 +1,5 @@
 pub mod Accepted
+pub mod Answers
 pub mod Clean
 pub mod Cuts
 pub mod Decimals

@@ -47,3 +47,13 @@ unfoldable pub fill : ℕ → (ℕ → List (List ℕ) → Bool) → (List (List
 fill size good of b n rs =
     let ls : List (List ℕ) = lead good of (length b / size - n) (n + 1) rs in
     filled (sets b (size * n) (flat ls)) (n + length ls) (drop (length ls) rs)
+
+-- of an accepted text: the list of addresses, and the table, six numbers a node
+abbrev pub addrList : Plain → List ℕ
+addrList (plain g w xs ns) = flat xs
+
+abbrev pub nodeTable : Plain → List ℕ
+nodeTable (plain g w xs ns) = flat ns
+
+abbrev pub wordWidth : Plain → ℕ
+wordWidth (plain g w xs ns) = w
