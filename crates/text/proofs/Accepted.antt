@@ -1,20 +1,20 @@
 -- The texts that are accepted are the written ones.
 use mathlib.Core.Path.{_≡_, refl, ap, sym, _∙_}
-use mathlib.Core.List.{List, [], _∷_, _++_, append-assoc, append-nil}
+use mathlib.Core.List.{List, [], _∷_, _++_, append-nil}
 use mathlib.Core.Bool.{Bool, true, false, _&&_}
-use Prim.Native.Nat.{ℕ, zero, suc, _+_, _-_, _*_, _^_, _≤_, _<_}
+use Prim.Native.Nat.{ℕ, zero, suc, _+_, _-_, _^_, _≤_, _<_}
 use native.Mathlib.Omega.{arith}
 use lib.Dec.{eqb, ltb, leb}
-use lib.ListN.{length, getD, take, drop, length-drop, length-append, drop-of-length-le}
+use lib.ListN.{length, getD, drop, length-drop, drop-of-length-le}
 use borrow.Author.Tests.{eqb-true, ltb-true, leb-true}
-use Rattle.loops.specs.Loop.{pick, first}
+use Rattle.loops.specs.Loop.{pick}
 use Rattle.loops.proofs.Loop.{both, first-true}
 use Rattle.text.specs.declared.number.Num.{Num}
 use Rattle.text.specs.declared.number.Num.the-variants.{Bad, Is}
 use Rattle.text.specs.Number.{decimal, number, valid, value}
 use Rattle.text.specs.Name.{same, wordName, addrName, nodeName, kindNames, isNamed, placeOf}
 use Rattle.text.specs.Rows.{rows}
-use Rattle.text.specs.Plain.{Plain, numberAt, kindAt, isPair, pairOf, isAddr, addrOf, isNode, nodeOf, lead, afterWord, plainRows, plainText}
+use Rattle.text.specs.Plain.{numberAt, kindAt, isPair, pairOf, isAddr, addrOf, isNode, nodeOf, lead, afterWord, plainRows, plainText}
 use Rattle.text.specs.Plain.Plain.{plain}
 use Rattle.text.specs.TableText.{textOf, ended, pairRow, addrRow, nodeRow, rowsOf, tableRows, tableText, AddrRecord, NodeRecord, All, IsTable}
 use Rattle.text.proofs.Names.{same-eq}

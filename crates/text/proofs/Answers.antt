@@ -1,8 +1,8 @@
 -- What a caller of `read_text` knows by its answer.
-use mathlib.Core.Path.{_≡_, refl, ap, sym, _∙_}
-use mathlib.Core.List.{List, [], _∷_, _++_}
+use mathlib.Core.Path.{_≡_, refl}
+use mathlib.Core.List.{List, [], _∷_}
 use mathlib.Core.Bool.{true, false}
-use Prim.Native.Nat.{ℕ, _+_, _*_, _/_, _≤_}
+use Prim.Native.Nat.{ℕ, _*_, _/_, _≤_}
 use native.Mathlib.Omega.{arith}
 use lib.ListN.{length, take, drop, length-append}
 use lib.Seq.{take-at}
@@ -12,7 +12,7 @@ use Rattle.text.specs.Plain.{Plain, plainText}
 use Rattle.text.specs.Plain.Plain.{plain}
 use Rattle.text.specs.Read.{addrSize, nodeSize, flat, answerOf, storedOf, readText, addrList, nodeTable, wordWidth}
 use Rattle.text.specs.Read.Stored.{stored}
-use Rattle.text.specs.TableText.{AddrRecord, NodeRecord, All, IsTable}
+use Rattle.text.specs.TableText.{AddrRecord, NodeRecord, All}
 use Rattle.text.proofs.Accepted.{accepted}
 
 flat-length : (P : List ℕ → Type 0) (size : ℕ) → ((r : List ℕ) → P r → length r ≡ size) → (ls : List (List ℕ)) → All P ls → length (flat ls) ≡ length ls * size

@@ -1,18 +1,17 @@
 -- Records stored line by line are the leading lines' records stored.
-use mathlib.Core.Path.{_≡_, refl, ap, sym, _∙_}
+use mathlib.Core.Path.{_≡_, refl, ap, _∙_}
 use mathlib.Core.List.{List, [], _∷_, _++_}
 use mathlib.Core.Bool.{Bool, true, false}
 use Prim.Native.Nat.{ℕ, zero, suc, _+_, _-_, _*_, _/_, _≤_, _<_}
 use native.Mathlib.Omega.{arith}
 use native.Mathlib.Nat.{mul-zero}
-use native.Mathlib.Numerals.{add-one}
 use lib.ListN.{length, getD, set, drop, length-append, drop-of-length-le}
 use lib.Seq.{sets, sets-eq, length-sets, drop-cons}
 use Rattle.loops.specs.Loop.{pick}
 use Rattle.text.specs.Over.{over}
 use Rattle.text.specs.Rows.{rows, lines, eachFields}
 use Rattle.text.specs.Plain.{lead}
-use Rattle.text.specs.Read.{flat, fill, Filled}
+use Rattle.text.specs.Read.{flat, fill}
 use Rattle.text.specs.Read.Filled.{filled}
 use Rattle.text.proofs.Cuts.{row, rest, rows-split}
 

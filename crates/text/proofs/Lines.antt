@@ -1,26 +1,21 @@
 -- What a line read field by field comes to.
-use mathlib.Core.Path.{_≡_, refl, ap, sym, _∙_}
-use mathlib.Core.List.{List, [], _∷_, _++_}
-use mathlib.Core.Bool.{Bool, true, false, not, _&&_, _||_}
-use Prim.Native.Nat.{ℕ, zero, suc, _+_, _-_, _≤_, _<_}
-use native.Mathlib.Omega.{arith}
+use mathlib.Core.Path.{_≡_, refl, ap, _∙_}
+use mathlib.Core.List.{List, [], _∷_}
+use mathlib.Core.Bool.{true, not, _&&_}
+use Prim.Native.Nat.{ℕ, _+_, _≤_}
 use lib.Dec.{eqb, ltb}
-use lib.ListN.{length, getD, take, drop}
+use lib.ListN.{length, take, drop}
 use Rattle.loops.specs.Loop.{pick, first}
 use Rattle.text.specs.declared.field.Field.{Field}
 use Rattle.text.specs.declared.line.Node.{Node}
-use Rattle.loops.proofs.Loop.{both}
-use borrow.Author.Tests.{eq-eqb, eqb-true, not-true}
-use Rattle.text.specs.declared.field.Part.{Part}
 use Rattle.text.specs.Number.{number, valid, value}
 use Rattle.text.specs.Name.{same, nodeName, placeOf}
 use Rattle.text.specs.Key.{key, pack, isKind}
-use Rattle.text.specs.Plain.{numberAt, kindAt, isPair, pairOf, isNode, nodeOf}
-use Rattle.text.specs.Field.{span, fieldAt, partAt, nameField, numberField, kindField, pairLine}
+use Rattle.text.specs.Field.{span, fieldAt, partAt, nameField, numberField, kindField}
 use Rattle.text.specs.NodeLine.{nodeLine}
 use Rattle.text.proofs.Elements.{Below, below-drop, below-take}
-use Rattle.text.proofs.Names.{bool-same, fine, name-is, place-is, node-fine}
-use Rattle.text.proofs.Cuts.{field, tabbed, after, row, rest, row-tab, row-end, row-more, row-one, part-is}
+use Rattle.text.proofs.Names.{fine, name-is, place-is}
+use Rattle.text.proofs.Cuts.{field, tabbed, after, part-is}
 
 -- the keys that the code names
 pub node-key : key nodeName ≡ 5996048238

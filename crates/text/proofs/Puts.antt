@@ -1,14 +1,12 @@
 -- What puts come to, one after the other.
 use mathlib.Core.Path.{_≡_, refl, ap, sym, _∙_}
 use mathlib.Core.List.{List, [], _∷_, _++_, append-assoc}
-use mathlib.Core.Bool.{Bool, true, false}
-use Prim.Native.Nat.{ℕ, zero, suc, _+_, _-_, _*_, _/_, _%_, _≤_, _<_}
+use Prim.Native.Nat.{ℕ, zero, suc, _+_, _/_, _%_, _≤_, _<_}
 use native.Mathlib.Omega.{arith}
 use native.Mathlib.Numerals.{add-one}
-use lib.Dec.{ltb, eqb}
-use lib.ListN.{length, getD, take, drop, set, length-set}
-use lib.Seq.{take-suc, take-all, sets, sets-eq}
-use borrow.Author.Tests.{lt-ltb, le-ltb, eq-eqb, ne-eqb}
+use lib.ListN.{length, getD, take, set, length-set}
+use lib.Seq.{take-suc, take-all, sets}
+use borrow.Author.Tests.{lt-ltb, le-ltb}
 use Rattle.loops.specs.Loop.{pick}
 use Rattle.text.specs.Number.{digits, decimal}
 use Rattle.text.specs.Line.{numbers, rest, line}

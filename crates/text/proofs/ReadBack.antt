@@ -1,27 +1,24 @@
 -- A table that is written is read back.
 use mathlib.Core.Path.{_≡_, refl, ap, sym, _∙_}
-use mathlib.Core.List.{List, [], _∷_, _++_, append-assoc, append-nil}
-use mathlib.Core.Bool.{Bool, true, false, _&&_}
-use Prim.Native.Nat.{ℕ, zero, suc, _+_, _-_, _*_, _^_, _≤_, _<_}
+use mathlib.Core.List.{List, [], _∷_, _++_, append-nil}
+use mathlib.Core.Bool.{Bool, true}
+use Prim.Native.Nat.{ℕ, zero, suc, _+_, _-_, _^_, _≤_, _<_}
 use native.Mathlib.Omega.{arith}
-use lib.Dec.{eqb, ltb, leb}
+use lib.Dec.{leb}
 use lib.ListN.{length, getD, drop, length-append}
 use lib.Seq.{drop-append-seam}
 use borrow.Author.Tests.{eq-eqb, lt-ltb, le-leb}
 use Rattle.loops.specs.Loop.{pick}
-use Rattle.text.specs.declared.number.Num.{Num}
-use Rattle.text.specs.declared.number.Num.the-variants.{Bad, Is}
-use Rattle.text.specs.Number.{decimal, number, valid, value}
-use Rattle.text.specs.Name.{same, wordName, addrName, nodeName, kindNames, placeOf}
+use Rattle.text.specs.Name.{wordName, addrName, nodeName, kindNames}
 use Rattle.text.specs.Rows.{rows}
-use Rattle.text.specs.Plain.{Plain, numberAt, kindAt, isPair, pairOf, isAddr, addrOf, isNode, nodeOf, lead, afterWord, plainRows, plainText}
+use Rattle.text.specs.Plain.{numberAt, kindAt, isPair, pairOf, isAddr, addrOf, isNode, nodeOf, lead, afterWord, plainRows, plainText}
 use Rattle.text.specs.Plain.Plain.{plain}
-use Rattle.text.specs.TableText.{textOf, ended, pairRow, addrRow, nodeRow, rowsOf, tableRows, tableText, AddrRecord, NodeRecord, All, IsTable}
+use Rattle.text.specs.TableText.{ended, pairRow, addrRow, nodeRow, rowsOf, tableRows, tableText, AddrRecord, NodeRecord, All, IsTable}
 use Rattle.text.proofs.Names.{same-refl, kind-place}
 use Rattle.text.proofs.Numbers.{number-decimal}
 use Rattle.text.proofs.Joins.{rows-ended}
 use Rattle.text.proofs.Fills.{lead-none, lead-bad, lead-more}
-use Rattle.text.proofs.Clean.{Clean, lacks, cleans, clean-at, decimal-clean, Fields, Row, Rows, rows-written}
+use Rattle.text.proofs.Clean.{Clean, lacks, cleans, clean-at, decimal-clean, Row, Rows, rows-written}
 
 -- the rows of a table are clean
 line-names-clean : cleans (wordName ∷ addrName ∷ nodeName ∷ []) ≡ true

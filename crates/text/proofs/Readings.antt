@@ -1,10 +1,10 @@
 -- What the reading loops come to.
 use mathlib.Core.Path.{_≡_, refl, ap, sym, _∙_}
-use mathlib.Core.List.{List, [], _∷_, _++_}
-use mathlib.Core.Bool.{Bool, true, false}
-use Prim.Native.Nat.{ℕ, zero, suc, _+_, _-_, _*_, _/_, _≤_, _<_}
+use mathlib.Core.List.{List, [], _∷_}
+use mathlib.Core.Bool.{true, false}
+use Prim.Native.Nat.{ℕ, suc, _+_, _*_, _/_, _≤_, _<_}
 use native.Mathlib.Omega.{arith}
-use lib.ListN.{length, getD, set, drop}
+use lib.ListN.{length, set, drop}
 use lib.Seq.{sets}
 use Rattle.loops.specs.Loop.{pick}
 use Rattle.text.specs.declared.field.Field.{Field}
@@ -12,17 +12,17 @@ use Rattle.text.specs.declared.line.Node.{Node}
 use Rattle.text.specs.Rows.{rows}
 use Rattle.text.specs.Name.{wordName, addrName}
 use Rattle.text.specs.Key.{key, pack}
-use Rattle.text.specs.Plain.{isPair, isAddr, addrOf, pairOf, isNode, nodeOf}
+use Rattle.text.specs.Plain.{isAddr, addrOf, pairOf, isNode, nodeOf}
 use Rattle.text.specs.Field.{pairLine}
 use Rattle.text.specs.NodeLine.{nodeLine}
 use Rattle.text.specs.Read.{addrSize, nodeSize, fill, Filled}
 use Rattle.text.specs.Read.Filled.{filled}
 use Rattle.text.proofs.Elements.{Below}
-use Rattle.text.proofs.Names.{word-fine, addr-fine}
+use Rattle.text.proofs.Names.{addr-fine}
 use Rattle.text.proofs.Cuts.{row, rest}
 use Rattle.text.proofs.Pairs.{pair-good, pair-value}
 use Rattle.text.proofs.Nodes.{node-good, node-value}
-use Rattle.text.proofs.Fills.{rows-at, rows-none, fill-full, fill-none, fill-bad, fill-more}
+use Rattle.text.proofs.Fills.{rows-at, rows-none, fill-none, fill-bad, fill-more}
 
 pub word-key : key wordName ≡ 5980188535
 unfolding key pack pick wordName

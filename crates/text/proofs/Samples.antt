@@ -1,7 +1,7 @@
 -- The definitions computed: document 01's lines, and texts that are refused.
 use mathlib.Core.Path.{_≡_, refl}
 use mathlib.Core.List.{List, [], _∷_}
-use mathlib.Core.Bool.{Bool, true, false, not, _&&_}
+use mathlib.Core.Bool.{Bool, true, not, _&&_}
 use Prim.Native.Nat.{ℕ}
 use Rattle.loops.specs.Loop.{pick, first}
 use Rattle.text.specs.Number.{digits, decimal, addDigit, digit, numberFrom, number}

@@ -1,6 +1,6 @@
 -- The bytes that the program reads and writes at most, by document 01's limits: 64 addresses, 512 nodes, 4,096 gates, 16,384 map places,
 -- 8,192 constraints.
-use mathlib.Core.Path.{_≡_, refl}
+use mathlib.Core.Path.{_≡_}
 use mathlib.Core.List.{List}
 use Prim.Native.Nat.{ℕ, _≤_, _<_}
 use native.Mathlib.Omega.{arith}

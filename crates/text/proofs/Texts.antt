@@ -1,8 +1,8 @@
 -- The whole text read.
 use mathlib.Core.Path.{_≡_, refl, ap, sym, _∙_}
-use mathlib.Core.List.{List, [], _∷_, _++_}
+use mathlib.Core.List.{List, [], _∷_}
 use mathlib.Core.Bool.{Bool, true, false}
-use Prim.Native.Nat.{ℕ, zero, suc, _+_, _-_, _*_, _/_, _≤_, _<_}
+use Prim.Native.Nat.{ℕ, suc, _+_, _-_, _/_, _≤_, _<_}
 use native.Mathlib.Omega.{arith}
 use lib.Dec.{leb}
 use lib.ListN.{length, drop, length-drop}
@@ -10,7 +10,6 @@ use Rattle.text.specs.Over.{over}
 use borrow.Author.Tests.{le-leb, lt-leb}
 use Rattle.loops.specs.Loop.{pick}
 use Rattle.text.specs.declared.field.Field.{Field}
-use Rattle.text.specs.declared.read.Read.{Read}
 use Rattle.text.specs.declared.read.Read.the-variants.{Refused, Table}
 use Rattle.text.specs.Rows.{rows, lines, eachFields}
 use Rattle.text.specs.Name.{wordName}
@@ -18,7 +17,7 @@ use Rattle.text.specs.Key.{key}
 use Rattle.text.specs.Plain.{isPair, pairOf, isAddr, addrOf, isNode, nodeOf, lead, afterWord, plainRows, plainText}
 use Rattle.text.specs.Plain.Plain.{plain}
 use Rattle.text.specs.Field.{pairLine}
-use Rattle.text.specs.Read.{addrSize, nodeSize, flat, answerOf, storedOf, readText, Stored}
+use Rattle.text.specs.Read.{addrSize, nodeSize, flat, answerOf, storedOf, readText}
 use Rattle.text.specs.Read.Stored.{stored}
 use Rattle.text.specs.Read.Filled.{filled}
 use Rattle.text.proofs.Elements.{Below}

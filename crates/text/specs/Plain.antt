@@ -1,7 +1,7 @@
 -- The text of a table, as document 01's "The program" has it: "tab-parted lines"; "one `word`, first; `addr` lines, each with one address, follow
 -- it"; "nodes come in order from 1, kinds by the names above". `rows` are a text's lines, each cut into its fields.
-use mathlib.Core.List.{List, [], _∷_, _++_}
-use mathlib.Core.Bool.{Bool, true, false, _&&_}
+use mathlib.Core.List.{List, [], _∷_}
+use mathlib.Core.Bool.{Bool, false, _&&_}
 use Prim.Native.Nat.{ℕ, zero, suc, _+_}
 use lib.Dec.{eqb, ltb, leb}
 use lib.ListN.{length, getD, drop}

@@ -7,7 +7,7 @@ use lib.Seq.{sets}
 use Rattle.text.specs.declared.read.Read.{Read}
 use Rattle.text.specs.declared.read.Read.the-variants.{Refused, Table}
 use Rattle.text.specs.Over.{over}
-use Rattle.text.specs.Plain.{Plain, lead, isAddr, addrOf, isNode, nodeOf, plainText}
+use Rattle.text.specs.Plain.{Plain, lead, plainText}
 use Rattle.text.specs.Plain.Plain.{plain}
 
 -- numbers of an address's record, and of a node's

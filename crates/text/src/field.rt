@@ -6,7 +6,7 @@ use crate::number::valid;
 use crate::number::value;
 ghost use mathlib.Core.Path.{_≡_};
 ghost use Prim.Native.Nat.{_+_, _≤_};
-ghost use lib.ListN.{length, drop};
+ghost use lib.ListN.{length};
 ghost use Rattle.text.specs.Field.{parts, endOf, partAt, nameField, numberField, kindField};
 
 // Where a field ends, whether a tab follows it, and where the next one begins: a tab or a newline further, or at the text's end.

@@ -3,7 +3,6 @@
 use crate::number::byte;
 ghost use mathlib.Core.Path.{_≡_};
 ghost use Prim.Native.Nat.{_≤_};
-ghost use lib.ListN.{length};
 ghost use Rattle.loops.specs.Loop.{first};
 ghost use Rattle.text.specs.Key.{key, isKind};
 

@@ -1,6 +1,5 @@
 // A field's bytes read as a decimal number.
 ghost use mathlib.Core.Path.{_≡_};
-ghost use lib.ListN.{length};
 ghost use Rattle.text.specs.Number.{addDigit, digit, numberFrom, number, valid, value};
 ghost use Rattle.text.specs.declared.number.Num.the-variants.{Is};
 

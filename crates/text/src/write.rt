@@ -3,11 +3,11 @@ use crate::put::put_numbered;
 use crate::put::put_pair;
 use crate::put::put_record;
 ghost use mathlib.Core.Path.{_≡_};
-ghost use Prim.Native.Nat.{_+_, _-_, _*_, _≤_, _<_};
+ghost use Prim.Native.Nat.{_+_, _*_, _≤_, _<_};
 ghost use lib.ListN.{length, getD};
 ghost use Rattle.text.specs.Put.{put};
 ghost use Rattle.text.specs.Put.Text.{text};
-ghost use Rattle.text.specs.Write.{gateSize, constraintSize, gateCount, constraintCount, gateLine, bitsLine, constraintLine, doneLine, refusedLine, each, output, Offsets, outputRoom, refusedRoom, Written};
+ghost use Rattle.text.specs.Write.{gateSize, constraintSize, gateCount, constraintCount, gateLine, bitsLine, constraintLine, refusedLine, each, output, Offsets, outputRoom, refusedRoom, Written};
 
 // Bytes that are always enough for 4,096 gates, 512 nodes, 16,384 map places and 8,192 constraints.
 pub const ROOM: usize = 750639;

@@ -1,5 +1,5 @@
-use mathlib.Core.Path.{_≡_, refl}
-use Prim.Native.Nat.{_≤_, _-_, _+_}
+use mathlib.Core.Path.{_≡_}
+use Prim.Native.Nat.{_≤_, _-_}
 use Rattle.loops.specs.Loop.{first}
 use Rattle.loops.proofs.Loop.{first-none}
 use Rattle.text.proofs.Names.{kind-found, kind-more, kind-none}

@@ -1,6 +1,6 @@
-use mathlib.Core.Path.{_≡_, refl}
-use Prim.Native.Nat.{_≤_, _-_, _+_}
-use lib.ListN.{length, take, drop}
+use mathlib.Core.Path.{_≡_}
+use Prim.Native.Nat.{_≤_, _-_}
+use lib.ListN.{length, take}
 use Rattle.text.specs.Number.{numberFrom}
 use Rattle.text.specs.declared.number.Num.the-variants.{Is}
 use Rattle.text.proofs.Numbers.{number-none, number-more, number-done}
