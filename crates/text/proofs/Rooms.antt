@@ -1,5 +1,5 @@
 -- How many bytes are written at most.
-use mathlib.Core.Path.{_≡_, ap}
+use mathlib.Core.Path.{_≡_, refl, ap}
 use mathlib.Core.List.{List, [], _∷_, _++_}
 use mathlib.Core.Bool.{Bool, true, false}
 use Prim.Native.Nat.{ℕ, zero, suc, _+_, _-_, _*_, _^_, _≤_, _<_}
@@ -10,7 +10,7 @@ use lib.ListN.{length, getD, drop, length-append, length-take}
 use Rattle.loops.specs.Loop.{pick}
 use Rattle.text.specs.Number.{decimal}
 use Rattle.text.specs.Line.{numbers, rest, line}
-use Rattle.text.specs.Write.{part, gateSize, constraintSize, gateName, bitsName, constraintName, doneName, refusedName, gateCount, constraintCount, gateLine, bitsLine, constraintLine, doneLine, refusedLine, each, output, Offsets, outputRoom, refusedRoom}
+use Rattle.text.specs.Write.{part, gateSize, constraintSize, gateName, bitsName, constraintName, doneName, refusedName, gateCount, constraintCount, gateLine, bitsLine, nextBits, nodeCount, constraintLine, doneLine, refusedLine, each, output, Offsets, outputRoom, refusedRoom}
 use Rattle.text.proofs.Elements.{Below, below-all, below-drop, below-take}
 use Rattle.text.proofs.Decimals.{decimal-length}
 
@@ -87,45 +87,48 @@ unfolding refusedLine refusedName refusedRoom
 refused-length n m h g = omega (arith, pair-length refusedName n m h g)
 
 module _ (map offsets marks : List ℕ) (s : Small map) where
-  bits-length : (i : ℕ) → i + 1 < 2 ^ 64 → length (bitsLine map offsets marks i) ≤ 26 + 11 * (getD offsets (i + 1) 0 - getD offsets i 0)
+  bits-length : (i : ℕ) → i < 2 ^ 64 → length (bitsLine map offsets marks i) ≤ 26 + 11 * (getD offsets (i + 1) 0 - getD offsets i 0)
   unfolding bitsLine bitsName pick
   bits-length i h = by (eqb (getD marks i 0) 0)
     where
-      by : (x : Bool) → length (pick x [] (line bitsName ((i + 1) ∷ part (getD offsets i 0) (getD offsets (i + 1) 0) map))) ≤ 26 + 11 * (getD offsets (i + 1) 0 - getD offsets i 0)
+      by : (x : Bool) → length (pick x [] (line bitsName (i ∷ part (getD offsets i 0) (getD offsets (i + 1) 0) map))) ≤ 26 + 11 * (getD offsets (i + 1) 0 - getD offsets i 0)
       by true = omega arith
       by false =
-          let m = more-length bitsName (i + 1) (part (getD offsets i 0) (getD offsets (i + 1) 0) map) h in
+          let m = more-length bitsName i (part (getD offsets i 0) (getD offsets (i + 1) 0) map) h in
           let r = record-length bitsName map (getD offsets i 0) (getD offsets (i + 1) 0) s in
           omega arith
 
-  -- each place of the map is printed at most once, since the offsets go up
-  all-bits : (n : ℕ) → n < 2 ^ 64 → ((i : ℕ) → i < n → getD offsets i 0 ≤ getD offsets (i + 1) 0) → length (each n (bitsLine map offsets marks)) ≤ n * 26 + 11 * getD offsets n 0
-  unfolding each
-  all-bits zero h u = omega arith
-  all-bits (suc n) h u =
-      let r = all-bits n (omega arith) (λ i l. u i (omega arith)) in
-      let m = bits-length n (omega arith) in
-      let o = u n (omega arith) in
-      let z : getD offsets (n + 1) 0 ≡ getD offsets (suc n) 0 = ap (λ (k : ℕ). getD offsets k 0) (add-one n) in
-      rw (length-append (each n (bitsLine map offsets marks)) (bitsLine map offsets marks n)) (omega arith)
+  module _ (n : ℕ) (h : n < 2 ^ 64) (o : Offsets offsets map n) where
+    -- each place of the map is printed at most once, since the offsets go up
+    some-bits : (k : ℕ) → k < n → length (each k (nextBits map offsets marks)) ≤ k * 26 + 11 * getD offsets (k + 1) 0
+    unfolding each nextBits
+    some-bits zero l = omega arith
+    some-bits (suc k) l =
+        let r = some-bits k (omega arith) in
+        let z : suc k ≡ k + 1 = omega arith in
+        let m = bits-length (k + 1) (omega arith) in
+        let u = o .up (k + 1) (omega arith) .0 in
+        rw (z, length-append (each k (nextBits map offsets marks)) (bitsLine map offsets marks (k + 1))) (omega arith)
 
-  bits-all : (n : ℕ) → n < 2 ^ 64 → Offsets offsets map n → length (each n (bitsLine map offsets marks)) ≤ n * 26 + 11 * length map
-  unfolding each
-  bits-all zero h o = omega arith
-  bits-all (suc n) h o =
-      let r = all-bits (suc n) h (λ i l. o .up i l .0) in
-      let m = o .up n (omega arith) .1 in
-      let z : getD offsets (n + 1) 0 ≡ getD offsets (suc n) 0 = ap (λ (k : ℕ). getD offsets k 0) (add-one n) in
-      omega arith
+    all-bits : length (each (n - 1) (nextBits map offsets marks)) ≤ (n - 1) * 26 + 11 * length map
+    unfolding each
+    all-bits = go (n - 1) refl
+      where
+        go : (k : ℕ) → n - 1 ≡ k → length (each k (nextBits map offsets marks)) ≤ k * 26 + 11 * length map
+        go zero e = omega arith
+        go (suc k) e =
+            let r = some-bits (suc k) (omega arith) in
+            let m = o .up (suc k) (omega arith) .1 in
+            omega arith
 
 -- the whole output
 pub output-length : (gates map offsets marks cs : List ℕ) → ((i : ℕ) → getD gates i 0 < 2 ^ 32) → ((i : ℕ) → getD map i 0 < 2 ^ 32) → ((i : ℕ) → getD cs i 0 < 2 ^ 32)
     → length gates < 2 ^ 64 → length marks < 2 ^ 64 → length cs < 2 ^ 64 → Offsets offsets map (length marks)
-    → length (output gates map offsets marks cs) ≤ outputRoom (gateCount gates) (length marks) (length map) (constraintCount cs)
+    → length (output gates map offsets marks cs) ≤ outputRoom (gateCount gates) (nodeCount marks) (length map) (constraintCount cs)
 unfolding output outputRoom
 output-length gates map offsets marks cs g m k a b c o =
     let e₁ = each-length (gateLine gates) (26 + 11 * gateSize) (gateCount gates) (λ i h. gate-length gates (below-all (2 ^ 32) gates g) i (omega arith)) in
-    let e₂ = bits-all map offsets marks (below-all (2 ^ 32) map m) (length marks) b o in
+    let e₂ = all-bits map offsets marks (below-all (2 ^ 32) map m) (length marks) b o in
     let e₃ = each-length (constraintLine cs) (11 + 11 * constraintSize) (constraintCount cs) (λ i h. constraint-length cs (below-all (2 ^ 32) cs k) i) in
     let e₄ = done-length (gateCount gates) (constraintCount cs) (omega arith) (omega arith) in
     simp length-append (omega arith)

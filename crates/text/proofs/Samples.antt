@@ -10,7 +10,7 @@ use Rattle.text.specs.Line.{numbers, rest, line}
 use Rattle.text.specs.Rows.{onto, lines, fields, eachFields, rows}
 use Rattle.text.specs.Plain.{Plain, numberAt, kindAt, isPair, pairOf, isAddr, addrOf, isNode, nodeOf, lead, afterWord, plainRows, plainText}
 use Rattle.text.specs.Plain.Plain.{plain}
-use Rattle.text.specs.Write.{gateName, bitsName, constraintName, doneName, gateLine, bitsLine, constraintLine, doneLine, each, output}
+use Rattle.text.specs.Write.{gateName, bitsName, constraintName, doneName, gateLine, bitsLine, nextBits, constraintLine, doneLine, each, output}
 
 -- document 01's text
 abbrev pub documentText : List ℕ
@@ -24,13 +24,13 @@ document-read = refl
 abbrev pub documentOutput : List ℕ
 documentOutput = 103 ∷ 97 ∷ 116 ∷ 101 ∷ 9 ∷ 48 ∷ 9 ∷ 48 ∷ 9 ∷ 48 ∷ 9 ∷ 48 ∷ 9 ∷ 48 ∷ 10 ∷ 103 ∷ 97 ∷ 116 ∷ 101 ∷ 9 ∷ 49 ∷ 9 ∷ 49 ∷ 9 ∷ 48 ∷ 9 ∷ 48 ∷ 9 ∷ 48 ∷ 10 ∷ 103 ∷ 97 ∷ 116 ∷ 101 ∷ 9 ∷ 50 ∷ 9 ∷ 50 ∷ 9 ∷ 49 ∷ 9 ∷ 48 ∷ 9 ∷ 48 ∷ 10 ∷ 103 ∷ 97 ∷ 116 ∷ 101 ∷ 9 ∷ 51 ∷ 9 ∷ 51 ∷ 9 ∷ 50 ∷ 9 ∷ 48 ∷ 9 ∷ 48 ∷ 10 ∷ 98 ∷ 105 ∷ 116 ∷ 115 ∷ 9 ∷ 49 ∷ 9 ∷ 50 ∷ 10 ∷ 98 ∷ 105 ∷ 116 ∷ 115 ∷ 9 ∷ 50 ∷ 9 ∷ 51 ∷ 10 ∷ 98 ∷ 105 ∷ 116 ∷ 115 ∷ 9 ∷ 51 ∷ 9 ∷ 51 ∷ 10 ∷ 100 ∷ 111 ∷ 110 ∷ 101 ∷ 9 ∷ 52 ∷ 9 ∷ 48 ∷ 10 ∷ []
 
-pub document-written : output (0 ∷ 0 ∷ 0 ∷ 0 ∷ 1 ∷ 0 ∷ 0 ∷ 0 ∷ 2 ∷ 1 ∷ 0 ∷ 0 ∷ 3 ∷ 2 ∷ 0 ∷ 0 ∷ []) (2 ∷ 3 ∷ 3 ∷ []) (0 ∷ 1 ∷ 2 ∷ 3 ∷ []) (1 ∷ 1 ∷ 1 ∷ []) [] ≡ documentOutput
-unfolding output each gateLine bitsLine constraintLine doneLine gateName bitsName constraintName doneName line rest numbers decimal digits pick
+pub document-written : output (0 ∷ 0 ∷ 0 ∷ 0 ∷ 1 ∷ 0 ∷ 0 ∷ 0 ∷ 2 ∷ 1 ∷ 0 ∷ 0 ∷ 3 ∷ 2 ∷ 0 ∷ 0 ∷ []) (2 ∷ 3 ∷ 3 ∷ []) (0 ∷ 0 ∷ 1 ∷ 2 ∷ 3 ∷ []) (0 ∷ 1 ∷ 1 ∷ 1 ∷ []) [] ≡ documentOutput
+unfolding output each gateLine nextBits bitsLine constraintLine doneLine gateName bitsName constraintName doneName line rest numbers decimal digits pick
 document-written = refl
 
 -- a reached memory with no bits, a node that is not reached
-pub empty-bits : each 2 (bitsLine [] (0 ∷ 0 ∷ 0 ∷ []) (1 ∷ 0 ∷ [])) ≡ 98 ∷ 105 ∷ 116 ∷ 115 ∷ 9 ∷ 49 ∷ 10 ∷ []
-unfolding each bitsLine bitsName line rest numbers decimal digits pick
+pub empty-bits : each 2 (nextBits [] (0 ∷ 0 ∷ 0 ∷ 0 ∷ []) (0 ∷ 1 ∷ 0 ∷ [])) ≡ 98 ∷ 105 ∷ 116 ∷ 115 ∷ 9 ∷ 49 ∷ 10 ∷ []
+unfolding each nextBits bitsLine bitsName line rest numbers decimal digits pick
 empty-bits = refl
 
 abbrev pub refused : Plain → Bool

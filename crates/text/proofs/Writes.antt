@@ -11,7 +11,7 @@ use Rattle.loops.specs.Loop.{pick}
 use Rattle.text.specs.Line.{line}
 use Rattle.text.specs.Put.{Text, put}
 use Rattle.text.specs.Put.Text.{text}
-use Rattle.text.specs.Write.{part, bitsName, gateCount, constraintCount, gateLine, bitsLine, constraintLine, doneLine, each, output, Written}
+use Rattle.text.specs.Write.{part, bitsName, gateCount, constraintCount, gateLine, bitsLine, nextBits, nodeCount, constraintLine, doneLine, each, output, Written}
 use Rattle.text.proofs.Puts.{put-append, put-room}
 
 module _ (f : ℕ → List ℕ) (t : Text) where
@@ -31,12 +31,16 @@ module _ (map offsets marks : List ℕ) (i : ℕ) (t : Text) where
   unfolding bitsLine pick put
   unmarked h = rw (eq-eqb (getD marks i 0) 0 h)
 
-  pub marked : (u : Text) → (getD marks i 0 ≡ 0 → ⊥) → u ≡ put t (line bitsName ((i + 1) ∷ part (getD offsets i 0) (getD offsets (i + 1) 0) map)) → u ≡ put t (bitsLine map offsets marks i)
+  pub marked : (u : Text) → (getD marks i 0 ≡ 0 → ⊥) → u ≡ put t (line bitsName (i ∷ part (getD offsets i 0) (getD offsets (i + 1) 0) map)) → u ≡ put t (bitsLine map offsets marks i)
   unfolding bitsLine pick
   marked u h e = rw (ne-eqb (getD marks i 0) 0 h) e
 
+pub next-put : (map offsets marks : List ℕ) (k : ℕ) (t u : Text) → u ≡ put t (bitsLine map offsets marks (k + 1)) → u ≡ put t (nextBits map offsets marks k)
+unfolding nextBits
+next-put map offsets marks k t u e = e
+
 output-put : (gates map offsets marks cs : List ℕ) (t a b c d : Text)
-    → a ≡ put t (each (gateCount gates) (gateLine gates)) → b ≡ put a (each (length marks) (bitsLine map offsets marks))
+    → a ≡ put t (each (gateCount gates) (gateLine gates)) → b ≡ put a (each (nodeCount marks) (nextBits map offsets marks))
     → c ≡ put b (each (constraintCount cs) (constraintLine cs)) → d ≡ put c (doneLine (gateCount gates) (constraintCount cs))
     → d ≡ put t (output gates map offsets marks cs)
 unfolding output
@@ -54,7 +58,7 @@ room-put l bs m r h e =
 
 pub written : (gates map offsets marks cs l m₁ : List ℕ) (r₁ : ℕ) (m₂ : List ℕ) (r₂ : ℕ) (m₃ : List ℕ) (r₃ : ℕ) (m : List ℕ) (r : ℕ)
     → length (output gates map offsets marks cs) ≤ length l
-    → text m₁ r₁ ≡ put (text l 0) (each (gateCount gates) (gateLine gates)) → text m₂ r₂ ≡ put (text m₁ r₁) (each (length marks) (bitsLine map offsets marks))
+    → text m₁ r₁ ≡ put (text l 0) (each (gateCount gates) (gateLine gates)) → text m₂ r₂ ≡ put (text m₁ r₁) (each (nodeCount marks) (nextBits map offsets marks))
     → text m₃ r₃ ≡ put (text m₂ r₂) (each (constraintCount cs) (constraintLine cs)) → text m r ≡ put (text m₃ r₃) (doneLine (gateCount gates) (constraintCount cs))
     → Written l (output gates map offsets marks cs) m r
 written gates map offsets marks cs l m₁ r₁ m₂ r₂ m₃ r₃ m r h e₁ e₂ e₃ e₄ =

@@ -1,4 +1,5 @@
--- Fields found one after the other by a place in the text that moves on: what the code does. proofs/Fields.antt has that it is a text's rows.
+-- Fields found one after the other by a place in the text that moves on: what the code does. proofs/Pairs.antt and Nodes.antt have that
+-- the lines so found are the rows of specs/Plain.antt.
 use mathlib.Core.List.{List, [], _∷_}
 use mathlib.Core.Bool.{Bool, false, not, _&&_, _||_}
 use Prim.Native.Nat.{ℕ, suc, _+_}

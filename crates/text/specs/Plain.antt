@@ -1,5 +1,6 @@
 -- The text of a table, as document 01's "The program" has it: "tab-parted lines"; "one `word`, first; `addr` lines, each with one address, follow
--- it"; "nodes come in order from 1, kinds by the names above". `rows` are a text's lines, each cut into its fields.
+-- it"; "nodes come in order from 1, kinds by the names above". `rows` are a text's lines, each cut into its fields; the last line's newline
+-- may be missing. An empty line has one field, which is no name; carriage returns and blanks are bytes like others. So each is refused.
 use mathlib.Core.List.{List, [], _∷_}
 use mathlib.Core.Bool.{Bool, false, _&&_}
 use Prim.Native.Nat.{ℕ, zero, suc, _+_}

@@ -43,11 +43,15 @@ part o e l = take (e - o) (drop o l)
 unfoldable pub gateLine : List ℕ → ℕ → List ℕ
 gateLine gates i = line gateName (i ∷ part (gateSize * i) (gateSize * i + gateSize) gates)
 
--- "One `bits` line a reached node, lowest bit first": that of node i + 1, whose bits stand in the map from offsets[i] up to offsets[i + 1]
+-- "One `bits` line a reached node, lowest bit first": node i, where it is marked; its bits stand in the map from offsets[i] up to offsets[i + 1]
 unfoldable pub bitsLine : List ℕ → List ℕ → List ℕ → ℕ → List ℕ
 bitsLine map offsets marks i =
     pick (eqb (getD marks i 0) 0) []
-    (line bitsName ((i + 1) ∷ part (getD offsets i 0) (getD offsets (i + 1) 0) map))
+    (line bitsName (i ∷ part (getD offsets i 0) (getD offsets (i + 1) 0) map))
+
+-- "nodes are numbered from 1": after k nodes comes node k + 1
+unfoldable pub nextBits : List ℕ → List ℕ → List ℕ → ℕ → List ℕ
+nextBits map offsets marks k = bitsLine map offsets marks (k + 1)
 
 -- constraint i: gate and value
 unfoldable pub constraintLine : List ℕ → ℕ → List ℕ
@@ -69,6 +73,10 @@ each (suc n) f = each n f ++ f n
 abbrev pub gateCount : List ℕ → ℕ
 gateCount gates = length gates / gateSize
 
+-- marks stand at the nodes' numbers; 0 is no node
+abbrev pub nodeCount : List ℕ → ℕ
+nodeCount marks = length marks - 1
+
 abbrev pub constraintCount : List ℕ → ℕ
 constraintCount constraints = length constraints / constraintSize
 
@@ -76,11 +84,11 @@ constraintCount constraints = length constraints / constraintSize
 unfoldable pub output : List ℕ → List ℕ → List ℕ → List ℕ → List ℕ → List ℕ
 output gates map offsets marks constraints =
     each (gateCount gates) (gateLine gates)
-    ++ each (length marks) (bitsLine map offsets marks)
+    ++ each (nodeCount marks) (nextBits map offsets marks)
     ++ each (constraintCount constraints) (constraintLine constraints)
     ++ doneLine (gateCount gates) (constraintCount constraints)
 
--- an offset for each node and one past the last, going up within the map
+-- an offset at each number below n and at n, going up within the map
 pub record Offsets (offsets map : List ℕ) (n : ℕ) : Type 0 where
   pub all : n < length offsets
   pub up : (i : ℕ) → i < n → (getD offsets i 0 ≤ getD offsets (i + 1) 0) × (getD offsets (i + 1) 0 ≤ length map)

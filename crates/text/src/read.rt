@@ -1,4 +1,5 @@
-// A table's text: any bytes are read, from the first to the last and once, into a table or a refusal.
+// A table's text: any bytes are read into a table or a refusal, in one pass up to the first line at fault. (Only the line that ends the
+// addresses is looked at twice: as an address, then as a node.)
 use crate::line::Node;
 use crate::line::node_line;
 use crate::line::pair_line;

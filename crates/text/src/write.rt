@@ -7,7 +7,7 @@ ghost use Prim.Native.Nat.{_+_, _*_, _≤_, _<_};
 ghost use lib.ListN.{length, getD};
 ghost use Rattle.text.specs.Put.{put};
 ghost use Rattle.text.specs.Put.Text.{text};
-ghost use Rattle.text.specs.Write.{gateSize, constraintSize, gateCount, constraintCount, gateLine, bitsLine, constraintLine, refusedLine, each, output, Offsets, outputRoom, refusedRoom, Written};
+ghost use Rattle.text.specs.Write.{gateSize, constraintSize, gateCount, constraintCount, gateLine, bitsLine, nextBits, nodeCount, constraintLine, refusedLine, each, output, Offsets, outputRoom, refusedRoom, Written};
 
 // Bytes that are always enough for 4,096 gates, 512 nodes, 16,384 map places and 8,192 constraints.
 pub const ROOM: usize = 750639;
@@ -39,7 +39,7 @@ fn gate_lines(out: &mut [u8], at: usize, gates: &[u32]) -> usize
     p
 }
 
-// The line of node i + 1, where it is marked as reached.
+// The line of node i, where it is marked as reached.
 fn bits_line(
     out: &mut [u8],
     at: usize,
@@ -57,18 +57,18 @@ fn bits_line(
     }
     let o = offsets[i];
     let e = offsets[i + 1];
-    put_numbered(out, at, b"bits", i as u64 + 1, &map[o..e])
+    put_numbered(out, at, b"bits", i as u64, &map[o..e])
 }
 
 fn bits_lines(out: &mut [u8], at: usize, map: &[u32], offsets: &[usize], marks: &[u8]) -> usize
     requires { ⌜ Offsets (now offsets) (now map) (length (now marks)) ⌝ }
-    ensures { λ r. ⌜ text (now (out .exit)) r ≡ put (text (now (out .entry)) at) (each (length (now (marks .entry))) (bitsLine (now (map .entry)) (now (offsets .entry)) (now (marks .entry)))) ⌝ }
+    ensures { λ r. ⌜ text (now (out .exit)) r ≡ put (text (now (out .entry)) at) (each (nodeCount (now (marks .entry))) (nextBits (now (map .entry)) (now (offsets .entry)) (now (marks .entry)))) ⌝ }
 {
     let mut p = at;
-    let mut i = 0;
-    while i < marks.len() {
-        p = bits_line(out, p, map, offsets, marks, i);
-        i += 1;
+    let mut k = 0;
+    while k + 1 < marks.len() {
+        p = bits_line(out, p, map, offsets, marks, k + 1);
+        k += 1;
     }
     p
 }
@@ -96,7 +96,7 @@ fn constraint_lines(out: &mut [u8], at: usize, constraints: &[u32]) -> usize
 }
 
 // All that is printed of a lowered table, from the buffer's first byte on; answers how many bytes it is. `gates` and `constraints` are
-// the used parts; node i + 1 is reached where marks[i] is not 0, and its bits stand in the map from offsets[i] up to offsets[i + 1].
+// the used parts; node i is reached where marks[i] is not 0, and its bits stand in the map from offsets[i] up to offsets[i + 1].
 pub fn write(
     gates: &[u32],
     map: &[u32],
@@ -106,7 +106,7 @@ pub fn write(
     out: &mut [u8],
 ) -> usize
     requires { ⌜ Offsets (now offsets) (now map) (length (now marks)) ⌝ }
-    requires { ⌜ outputRoom (gateCount (now gates)) (length (now marks)) (length (now map)) (constraintCount (now constraints)) ≤ length (now out) ⌝ }
+    requires { ⌜ outputRoom (gateCount (now gates)) (nodeCount (now marks)) (length (now map)) (constraintCount (now constraints)) ≤ length (now out) ⌝ }
     ensures { λ r. ⌜ Written (now (out .entry)) (output (now (gates .entry)) (now (map .entry)) (now (offsets .entry)) (now (marks .entry)) (now (constraints .entry))) (now (out .exit)) r ⌝ }
 {
     let p = gate_lines(out, 0, gates);

@@ -28,9 +28,6 @@ shared-slice-read-e c = search needs
 slice-aggregate-put-numbered : tie.Need-slice-aggregate-put-numbered
 slice-aggregate-put-numbered c = search needs
 
-add-put-numbered : tie.Need-add-put-numbered
-add-put-numbered c = search needs
-
 mul-put-numbered : tie.Need-mul-put-numbered
 mul-put-numbered c = search needs
 
@@ -65,7 +62,6 @@ bits-line-spec =
     mul-e
     shared-slice-read-e
     slice-aggregate-put-numbered
-    add-put-numbered
     mul-put-numbered
     sub-put-numbered
     part-put-numbered-start
