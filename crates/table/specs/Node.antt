@@ -45,9 +45,8 @@ abbrev pub Narrow : List ℕ → Type 0
 Narrow t = (j : ℕ) → widthOf t j ≤ 64
 
 -- what a table without fault has, apart from its sorts
-pub record Fine (t l : List ℕ) (w : ℕ) : Type 0 where
+pub record Fine (t l : List ℕ) : Type 0 where
   pub narrow : Narrow t
   pub few : nodes t ≤ 512
   pub short : length l ≤ 64
-  pub word : (1 ≤ w) × (w ≤ 64)
   pub before : (i : ℕ) → i < nodes t → (aOf t (i + 1) ≤ i) × (bOf t (i + 1) ≤ i) × (cOf t (i + 1) ≤ i)

@@ -8,7 +8,7 @@ use Rattle.table.specs.Size.{nodeSize}
 use Rattle.table.specs.Ceiling.{nodeGates, nodeConstraints}
 use Rattle.table.proofs.size.Laws.{sum-none, sum-more}
 use Rattle.table.proofs.ceiling.Laws.{sums-path}
-use Rattle.table.proofs.Whole.{fine}
+use Rattle.table.proofs.Whole.{fine, within}
 use Rattle.table.proofs.ceiling.sums.Statement.{statement}
 use Rattle.table.proofs.ceiling.sums.Tie as tie
 
@@ -22,13 +22,13 @@ loop-holds : tie.Need-loop-holds Inv-loop μ-loop
 loop-holds c = (omega arith, omega arith, omega arith, omega arith, sum-none _ 2, sum-none _ 0, sum-none _ 0)
 
 node-gates-requires : tie.Need-node-gates-requires Inv-loop μ-loop
-node-gates-requires c κs = let q = fine _ _ _ (c .before .before .before .before .pre) in (q .short, q .word .1, omega (arith, q .few), q .narrow)
+node-gates-requires c κs = let q = fine _ _ _ (c .before .before .before .before .pre) in (q .short, within _ _ _ (c .before .before .before .before .pre) .4, omega (arith, q .few), q .narrow)
 
 add-gates : tie.Need-add-gates Inv-loop μ-loop
 add-gates c = let q = fine _ _ _ (c .before .before .before .before .before .pre) in omega (arith, q .few)
 
 node-size-requires : tie.Need-node-size-requires Inv-loop μ-loop
-node-size-requires c κs = let q = fine _ _ _ (c .before .before .before .before .before .pre) in (q .short, q .word .1, omega (arith, q .few), q .narrow)
+node-size-requires c κs = let q = fine _ _ _ (c .before .before .before .before .before .pre) in (q .short, within _ _ _ (c .before .before .before .before .before .pre) .4, omega (arith, q .few), q .narrow)
 
 add-map : tie.Need-add-map Inv-loop μ-loop
 add-map c = let q = fine _ _ _ (c .before .before .before .before .before .before .pre) in omega (arith, q .few)
