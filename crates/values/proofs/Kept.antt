@@ -6,9 +6,9 @@ use Prim.Native.Nat.{ℕ, zero, suc, _+_, _≤_, _<_}
 use native.Mathlib.Omega.{arith}
 use native.Mathlib.Decide.{decLt}
 use lib.Dec.{ltb}
-use lib.ListN.{length, getD, set, length-set}
+use lib.ListN.{length, getD, length-set}
 use lib.Seq.{getD-set-other, getD-set-same}
-use borrow.Author.Tests.{ltb-false, not-false}
+use borrow.Author.Tests.{ltb-false}
 use Rattle.loops.specs.Loop.{pick, iter, first}
 use Rattle.loops.proofs.Loop.{iter-inv, pick-true, pick-false}
 use Rattle.table.specs.declared.Fault.the-variants.{Clear}

@@ -1,8 +1,8 @@
 -- A node's value looks only at the slots of lower nodes, so the final values are what each node's kind makes of the final values themselves.
-use mathlib.Core.Path.{_≡_, refl, ap, ap₂, sym, _∙_}
+use mathlib.Core.Path.{_≡_, ap, ap₂, sym, _∙_}
 use mathlib.Core.List.{List}
-use mathlib.Core.Logic.{_⊎_, inl, inr}
-use mathlib.Core.Bool.{Bool, true, false}
+use mathlib.Core.Logic.{inl, inr}
+use mathlib.Core.Bool.{true, false}
 use Prim.Native.Nat.{ℕ, _+_, _-_, _≤_, _<_}
 use native.Mathlib.Omega.{arith}
 use native.Mathlib.Decide.{decLt}
@@ -18,9 +18,9 @@ use Rattle.table.proofs.Whole.{Sound, Rule, is-const, is-input, is-state, is-no
 use Rattle.values.specs.declared.Answer.the-variants.{Done}
 use Rattle.values.specs.Value.{listed, notWord, addWord, subWord, mulWord, divWord, remWord, readValue, writeValue, iteValue, slotValue}
 use Rattle.values.specs.Eval.{slots, offset, nodeGiven, nodeStep, evalWords}
-use Rattle.values.specs.Frame.{Kept, Made, Valued}
+use Rattle.values.specs.Frame.{Valued}
 use Rattle.values.proofs.ByKind.{at-const, at-state, at-not, at-bad, at-and, at-ext, at-eq, at-add, at-ite, at-sub, at-ult, at-mul, at-divu, at-rem, at-read, at-write}
-use Rattle.values.proofs.Seen.{no-input, initial, memory-slots, reach, see-word, see-memory, see-same}
+use Rattle.values.proofs.Seen.{no-input, initial, reach, see-word, see-memory, see-same}
 use Rattle.values.proofs.Kept.{kept, worked, finished}
 
 module _ (t l : List ℕ) (w i : ℕ) (x y : List ℕ) (j : ℕ) (pos : 1 ≤ w) (s : Sound t w (i + 1)) (free : nodeGiven t i ≡ false) (inside : j < slots t l i)

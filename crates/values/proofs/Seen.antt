@@ -1,19 +1,18 @@
 -- What a node sees of its operands: a fact of each slot of each lower node, with that slot's width, is one of each operand at the width its sort rule says.
-use mathlib.Core.Path.{_≡_, refl, ap, sym, _∙_}
+use mathlib.Core.Path.{_≡_, ap}
 use mathlib.Core.List.{List}
-use mathlib.Core.Bool.{Bool, true, false, _&&_, _||_}
+use mathlib.Core.Bool.{false, _&&_, _||_}
 use Prim.Native.Nat.{ℕ, _+_, _-_, _≤_, _<_}
 use native.Mathlib.Omega.{arith}
 use lib.Dec.{eqb}
 use lib.ListN.{length}
 use borrow.Author.Tests.{eq-eqb, ne-eqb, eqb-false}
-use Rattle.loops.specs.Loop.{pick}
 use Rattle.loops.proofs.Loop.{pick-true, pick-false}
 use Rattle.table.specs.declared.Node.{Node}
 use Rattle.table.specs.declared.Unit.the-variants.{Slot}
 use Rattle.table.specs.Kind.{INPUT, STATE}
-use Rattle.table.specs.Node.{nodes, nodeAt, widthOf, given}
-use Rattle.table.specs.Size.{nodeSize, offsetOf}
+use Rattle.table.specs.Node.{nodeAt, widthOf, given}
+use Rattle.table.specs.Size.{nodeSize}
 use Rattle.table.proofs.size.Laws.{apart}
 use Rattle.values.specs.Eval.{slots, offset, slotWidth}
 
@@ -41,9 +40,13 @@ initial d e g =
     omega (arith, n)
 
 module _ (t l : List ℕ) where
-  pub memory-slots : (p : ℕ) → 1 ≤ p → widthOf t p ≡ 0 → slots t l (p - 1) ≡ length l
+  memory-slots : (p : ℕ) → 1 ≤ p → widthOf t p ≡ 0 → slots t l (p - 1) ≡ length l
   unfolding nodeSize
   memory-slots p h z = let e : p - 1 + 1 ≡ p = omega arith in rw e (pick-true _ _ _ (eq-eqb (widthOf t p) 0 z))
+
+  pub memory-own : (i : ℕ) → widthOf t (i + 1) ≡ 0 → slots t l i ≡ length l
+  unfolding nodeSize
+  memory-own i z = pick-true _ _ _ (eq-eqb (widthOf t (i + 1)) 0 z)
 
   word-slots : (p : ℕ) → 1 ≤ p → 1 ≤ widthOf t p → slots t l (p - 1) ≡ 1
   unfolding nodeSize
