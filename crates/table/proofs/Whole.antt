@@ -8,16 +8,16 @@ use native.Mathlib.Omega.{arith}
 use native.Mathlib.Decide.{decLt}
 use native.Mathlib.Numerals.{add-one}
 use lib.Dec.{eqb, ltb, leb}
-use lib.ListN.{length}
-use borrow.Author.Tests.{lt-ltb, leb-true, ltb-true, eqb-true}
+use lib.ListN.{length, getD}
+use borrow.Author.Tests.{lt-ltb, leb-true, ltb-true, ltb-false, eqb-true, eqb-false, eq-eqb, not-false}
 use Rattle.loops.specs.Loop.{pick, first}
-use Rattle.loops.proofs.Loop.{first-true, first-below, pick-true, both, either}
+use Rattle.loops.proofs.Loop.{first-true, first-below, first-found, first-le, pick-true, both, either}
 use Rattle.table.specs.declared.Fault.{Fault}
 use Rattle.table.specs.declared.Fault.the-variants.{Clear, Size, Address, Kind, NotLowered, Operand, Sort}
 use Rattle.table.specs.declared.Node.{Node}
 use Rattle.table.specs.Kind.{CONST, INPUT, STATE, NOT, BAD, AND, EXT, EQ, ADD, ITE, SUB, ULT, MUL, DIVU, REM, READ, WRITE, named, lowered, mayUseA, usesA, usesB, usesC, usesImm, evenly, compares}
 use Rattle.table.specs.Node.{fieldAt, nodes, nodeAt, kindOf, widthOf, aOf, bOf, cOf, Narrow, Fine}
-use Rattle.table.specs.Sheet.{isClear, sizeGood, addressesBad, operand, operandsGood, sortGood, sortsGood, faultOf, nodeFault, nodeBad, nodesFault, tableFault}
+use Rattle.table.specs.Sheet.{isClear, sizeGood, isAt, addressBad, addressesBad, operand, operandsGood, sortGood, sortsGood, faultOf, nodeFault, nodeBad, nodesFault, tableFault}
 use Rattle.table.proofs.field.Laws.{field-out}
 
 -- a test that stands before a fault was passed
@@ -209,16 +209,21 @@ sound t w i h e =
       sort = z .1;
     }
 
+neither : (p q : Bool) → (p || q) ≡ false → (p ≡ false) × (q ≡ false)
+neither true q e = absurd (let z : _≡_ {A = ℕ} 0 1 = cc in omega arith)
+neither false q e = (refl, e)
+
 module _ (t l : List ℕ) (w : ℕ) (e : tableFault t l w ≡ Clear) where
-  sizes : (sizeGood t l w ≡ true) × (nodesFault t w ≡ Clear)
+  sizes : (sizeGood t l w ≡ true) × (addressesBad l w ≡ false) × (nodesFault t w ≡ Clear)
   unfolding tableFault pick
   sizes =
       let p = past (sizeGood t l w) Size _ refl e in
-      (p .0, go (addressesBad l w) (p .1))
+      let q = go (addressesBad l w) (p .1) in
+      (p .0, q .0, q .1)
     where
-      go : (b : Bool) → pick b Address (nodesFault t w) ≡ Clear → nodesFault t w ≡ Clear
+      go : (b : Bool) → pick b Address (nodesFault t w) ≡ Clear → (b ≡ false) × (nodesFault t w ≡ Clear)
       go true q = absurd (let z : _≡_ {A = ℕ} 0 1 = cc (ap isClear q) in omega arith)
-      go false q = q
+      go false q = (refl, q)
 
   -- the counts and W are within their ranges
   pub within : (length t % 6 ≡ 0) × (nodes t ≤ 512) × (length l ≤ 64) × (1 ≤ w) × (w ≤ 64)
@@ -230,10 +235,42 @@ module _ (t l : List ℕ) (w : ℕ) (e : tableFault t l w ≡ Clear) where
       let d = both (eqb (length t % 6) 0) (leb (nodes t) 512) (c .0) in
       (eqb-true _ 0 (d .0), leb-true _ 512 (d .1), leb-true _ 64 (c .1), leb-true 1 w (b .1), leb-true w 64 (a .1))
 
+  -- each listed address is below 2^W, and stands in the list once
+  address-good : (i : ℕ) → i < length l → (i ≤ first i (isAt l (getD l i 0))) × (getD l i 0 < 2 ^ w)
+  unfolding addressesBad addressBad
+  address-good i h =
+      let n : length l ≤ first (length l) (addressBad l w) = ltb-false (first (length l) (addressBad l w)) (length l) (sizes .1) in
+      let b : addressBad l w i ≡ false = first-below (addressBad l w) (length l) i (omega arith) in
+      let q = neither (ltb (first i (isAt l (getD l i 0))) i) (not (ltb (getD l i 0) (2 ^ w))) b in
+      (ltb-false _ i (q .0), ltb-true (getD l i 0) (2 ^ w) (not-false _ (q .1)))
+
+  pub address-small : (i : ℕ) → i < length l → getD l i 0 < 2 ^ w
+  address-small i h = address-good i h .1
+
+  unequal : (i j : ℕ) → i < length l → j < i → getD l j 0 ≡ getD l i 0 → ⊥
+  unfolding isAt
+  unequal i j h k q =
+      let n = address-good i h .0 in
+      let b : isAt l (getD l i 0) j ≡ false = first-below (isAt l (getD l i 0)) i j (omega arith) in
+      eqb-false (getD l j 0) (getD l i 0) b q
+
+  pub distinct : (i j : ℕ) → i < length l → j < length l → getD l i 0 ≡ getD l j 0 → i ≡ j
+  distinct i j h k q = go (decLt i j) (decLt j i)
+    where
+      go : Dec (i < j) → Dec (j < i) → i ≡ j
+      go (yes p) r = absurd (unequal j i k p q)
+      go (no p) (yes r) = absurd (unequal i j h r (sym q))
+      go (no p) (no r) = omega arith
+
+  -- so a listed address is found at its own place
+  pub found-at : (i : ℕ) → i < length l → first (length l) (isAt l (getD l i 0)) ≡ i
+  unfolding isAt
+  found-at i h = sym (first-found (isAt l (getD l i 0)) (length l) i true h (omega (arith, address-good i h .0, first-le (isAt l (getD l i 0)) i)) (sym (eq-eqb (getD l i 0) (getD l i 0) refl)) refl)
+
   none-bad : Dec (first (nodes t) (nodeBad t w) < nodes t) → nodes t ≤ first (nodes t) (nodeBad t w)
   unfolding nodesFault nodeBad
   none-bad (yes h) =
-      let q : nodeFault t w (first (nodes t) (nodeBad t w) + 1) ≡ Clear = sym (pick-true _ _ Clear (lt-ltb _ _ h)) ∙ sizes .1 in
+      let q : nodeFault t w (first (nodes t) (nodeBad t w) + 1) ≡ Clear = sym (pick-true _ _ Clear (lt-ltb _ _ h)) ∙ sizes .2 in
       let r : not (isClear (nodeFault t w (first (nodes t) (nodeBad t w) + 1))) ≡ true = first-true (nodeBad t w) (nodes t) h in
       absurd (let z : _≡_ {A = ℕ} 0 1 = cc (ap (λ f. not (isClear f)) q) in omega arith)
   none-bad (no h) = omega arith

@@ -18,13 +18,11 @@ divGates v = 2 * v * v + 13 * v + 1 + v * (v - 1) / 2
 unfoldable pub divConstraints : ℕ → ℕ
 divConstraints v = v * (v - 1) / 2 + 2 * v + 2
 
--- read, write, ite
-unfoldable pub readGates : ℕ → ℕ → ℕ
-readGates n w = n * (4 * w - 1)
+-- read, write: k gates a bit, less one, for each listed address
+unfoldable pub memoryGates : ℕ → ℕ → ℕ → ℕ
+memoryGates n w k = n * (k * w - 1)
 
-unfoldable pub writeGates : ℕ → ℕ → ℕ
-writeGates n w = n * (5 * w - 1)
-
+-- ite
 unfoldable pub iteGates : ℕ → ℕ → ℕ → ℕ
 iteGates n w v = 3 * sizeOf Bit n w v
 
@@ -39,8 +37,8 @@ plainGates n w d x =
     (pick (eqb (d .kind) ULT) (4 * x + 1)
     (pick (eqb (d .kind) MUL) (2 * d .width * (d .width + 1))
     (pick (eqb (d .kind) ITE) (iteGates n w (d .width))
-    (pick (eqb (d .kind) READ) (readGates n w)
-    (pick (eqb (d .kind) WRITE) (writeGates n w)
+    (pick (eqb (d .kind) READ) (memoryGates n w 4)
+    (pick (eqb (d .kind) WRITE) (memoryGates n w 5)
     0))))))))
 
 unfoldable pub ceiling : ℕ → ℕ → Node → ℕ → ℕ

@@ -4,7 +4,7 @@ ghost use lib.ListN.{length};
 ghost use Rattle.table.specs.Node.{Narrow};
 ghost use Rattle.table.specs.Sheet.{tableFault};
 ghost use Rattle.table.specs.Ceiling as top;
-ghost use Rattle.table.specs.Ceiling.{divGates, divConstraints, readGates, writeGates, iteGates, plainGates, constraintCeiling, nodeGates, nodeConstraints, sumsOf};
+ghost use Rattle.table.specs.Ceiling.{divGates, divConstraints, memoryGates, iteGates, plainGates, constraintCeiling, nodeGates, nodeConstraints, sumsOf};
 use crate::Fault;
 use crate::Node;
 use crate::Sums;
@@ -50,18 +50,12 @@ fn div_constraints(v: u64) -> u64
     times(v, less_one(v)) / 2 + 2 * v + 2
 }
 
-fn read_gates(n: u64, w: u64) -> u64
-    requires { ⌜ (n ≤ 64) × (w ≤ 64) ⌝ }
-    ensures { λ r. ⌜ (r ≡ readGates n w) × (r ≤ 67108864) ⌝ }
+// For each listed address k gates a bit, less one.
+fn memory_gates(n: u64, w: u64, k: u64) -> u64
+    requires { ⌜ (n ≤ 64) × (w ≤ 64) × (k ≤ 5) ⌝ }
+    ensures { λ r. ⌜ (r ≡ memoryGates n w k) × (r ≤ 67108864) ⌝ }
 {
-    times(n, less_one(4 * w))
-}
-
-fn write_gates(n: u64, w: u64) -> u64
-    requires { ⌜ (n ≤ 64) × (w ≤ 64) ⌝ }
-    ensures { λ r. ⌜ (r ≡ writeGates n w) × (r ≤ 67108864) ⌝ }
-{
-    times(n, less_one(5 * w))
+    times(n, less_one(times(k, w)))
 }
 
 fn ite_gates(n: u64, w: u64, v: u64) -> u64
@@ -100,10 +94,10 @@ fn plain_gates(n: u64, w: u64, node: Node, x: u64) -> u64
         return ite_gates(n, w, v);
     }
     if k == READ {
-        return read_gates(n, w);
+        return memory_gates(n, w, 4);
     }
     if k == WRITE {
-        return write_gates(n, w);
+        return memory_gates(n, w, 5);
     }
     0
 }

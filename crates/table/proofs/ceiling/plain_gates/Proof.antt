@@ -64,15 +64,15 @@ returns-7 : tie.Need-returns-7
 unfolding plainGates
 returns-7 c = (search (needs, eq-eqb, ne-eqb, pick-true, pick-false), omega arith)
 
-read-gates-requires : tie.Need-read-gates-requires
-read-gates-requires c κs = search needs
+memory-gates-requires : tie.Need-memory-gates-requires
+memory-gates-requires c κs = search needs
 
 returns-8 : tie.Need-returns-8
 unfolding plainGates
 returns-8 c = (search (needs, eq-eqb, ne-eqb, pick-true, pick-false), omega arith)
 
-write-gates-requires : tie.Need-write-gates-requires
-write-gates-requires c κs = search needs
+memory-gates-requires-2 : tie.Need-memory-gates-requires-2
+memory-gates-requires-2 c κs = search needs
 
 returns-9 : tie.Need-returns-9
 unfolding plainGates
@@ -103,8 +103,8 @@ plain-gates-spec =
     returns-6
     ite-gates-requires
     returns-7
-    read-gates-requires
+    memory-gates-requires
     returns-8
-    write-gates-requires
+    memory-gates-requires-2
     returns-9
     returns-10)
