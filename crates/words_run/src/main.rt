@@ -212,7 +212,7 @@ fn count(
     differ
 }
 
-// One operation, into a gate list of its own.
+// One operation, into a gate list of its own. There is room for 32 gates: 10 stand before it, and no operation makes more than 17.
 fn run(name: &[u8], op: Op) {
     let mut gates = [0u32; 128];
     let mut values = [0u8; 32];
