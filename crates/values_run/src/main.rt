@@ -4,7 +4,6 @@ ghost use lib.ListN.{length};
 use cases::fill::list_u64;
 use cases::next_number;
 use libc::STDIN_FILENO;
-use libc::STDOUT_FILENO;
 use values::eval::eval_words;
 use values::eval::node;
 use values::eval::number;
@@ -108,21 +107,8 @@ fn run_case(
     )
 }
 
-fn report(case: u64) {
-    io::write_all(STDOUT_FILENO, b"words: case ");
-    io::print_decimal(STDOUT_FILENO, case);
-    io::write_all(STDOUT_FILENO, b" differs\n");
-}
-
-fn summary(cases: u64, differ: u64) {
-    io::write_all(STDOUT_FILENO, b"words: ");
-    io::print_decimal(STDOUT_FILENO, cases);
-    io::write_all(STDOUT_FILENO, b" cases, ");
-    io::print_decimal(STDOUT_FILENO, differ);
-    io::write_all(STDOUT_FILENO, b" differ\n");
-}
-
 fn run_all(
+    name: &[u8],
     text: &[u8],
     addrs: &mut [u64],
     table: &mut [u64],
@@ -139,11 +125,11 @@ fn run_all(
         i += 1;
         if !verdict.same {
             differ += 1;
-            report(i);
+            tally::report(name, i);
         }
         at = verdict.next;
     }
-    summary(cases, differ);
+    tally::summary(name, cases, differ);
 }
 
 fn main() {
@@ -153,5 +139,12 @@ fn main() {
     let mut table = [0u64; 4096];
     let mut values = [0u64; 4096];
     let mut wanted = [0u64; 4096];
-    run_all(&text[..n], &mut addrs, &mut table, &mut values, &mut wanted);
+    run_all(
+        b"words",
+        &text[..n],
+        &mut addrs,
+        &mut table,
+        &mut values,
+        &mut wanted,
+    );
 }

@@ -6,10 +6,10 @@ use Rattle.values_run.proofs.run_all.Statement.{statement}
 use Rattle.values_run.proofs.run_all.Tie as tie
 
 abbrev Inv-loop : tie.InvT-loop
-Inv-loop text addrs₀ table₀ values₀ wanted₀ cases at₀ differ₀ i₀ addrs table values wanted at differ i = (at ≤ length text) × (i ≤ cases) × (differ ≤ i) × (length addrs ≡ length addrs₀) × (length table ≡ length table₀) × (length values ≡ length values₀) × (length wanted ≡ length wanted₀)
+Inv-loop name text addrs₀ table₀ values₀ wanted₀ cases at₀ differ₀ i₀ addrs table values wanted at differ i = (at ≤ length text) × (i ≤ cases) × (differ ≤ i) × (length addrs ≡ length addrs₀) × (length table ≡ length table₀) × (length values ≡ length values₀) × (length wanted ≡ length wanted₀)
 
 abbrev μ-loop : tie.MeasureT-loop
-μ-loop text addrs₀ table₀ values₀ wanted₀ cases at₀ differ₀ i₀ addrs table values wanted at differ i = cases - i
+μ-loop name text addrs₀ table₀ values₀ wanted₀ cases at₀ differ₀ i₀ addrs table values wanted at differ i = cases - i
 
 next-number-requires : tie.Need-next-number-requires Inv-loop μ-loop
 next-number-requires c κs = omega arith
