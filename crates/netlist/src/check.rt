@@ -3,6 +3,7 @@ ghost use mathlib.Core.Path.{_≡_};
 ghost use Prim.Native.Nat.{ℕ, _+_};
 ghost use Rattle.loops.specs.Loop.{first};
 ghost use Rattle.netlist.specs.Record.{Room, records};
+ghost use Rattle.netlist.specs.Check as check;
 ghost use Rattle.netlist.specs.Check.{fieldGood, constGood, laterGood, faulty, listFault, isDone};
 use crate::record;
 use crate::record::Gate;
@@ -13,6 +14,30 @@ pub enum Answer {
     GateList(usize),
     ValueRoom,
     Input(usize),
+}
+
+// An answer's number on the refusal sheet; 0 is no refusal.
+pub fn number(a: Answer) -> u64
+    ensures { λ r. ⌜ r ≡ check.number a ⌝ }
+{
+    match a {
+        Answer::Done => 0,
+        Answer::GateList(_) => 11,
+        Answer::ValueRoom => 12,
+        Answer::Input(_) => 13,
+    }
+}
+
+// The gate that stands beside it.
+pub fn place(a: Answer) -> usize
+    ensures { λ r. ⌜ r ≡ check.place a ⌝ }
+{
+    match a {
+        Answer::Done => 0,
+        Answer::GateList(i) => i,
+        Answer::ValueRoom => 0,
+        Answer::Input(i) => i,
+    }
 }
 
 pub fn is_done(a: Answer) -> bool

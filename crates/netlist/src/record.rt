@@ -1,7 +1,8 @@
 // The layout of a gate record in a lent buffer. Nothing else knows how many numbers a record has.
 ghost use mathlib.Core.Path.{_≡_};
 ghost use Prim.Native.Nat.{ℕ, _+_, _*_};
-ghost use Rattle.netlist.specs.Record.{gateAt, put, Room, records, wholeRecords};
+ghost use lib.ListN.{take};
+ghost use Rattle.netlist.specs.Record.{gateAt, put, used, Room, records, wholeRecords};
 
 // A gate: its kind, and three numbers that are operands, or node and bit of a free gate; what a kind does not use is 0.
 pub struct Gate {
@@ -35,6 +36,15 @@ pub fn put_gate(gates: &mut [u32], i: usize, g: Gate)
     gates[at + 1] = g.x;
     gates[at + 2] = g.y;
     gates[at + 3] = g.z;
+}
+
+// The part of a buffer that its first n records take.
+pub fn part(gates: &[u32], n: usize) -> &[u32]
+    requires { ⌜ Room (now gates) n ⌝ }
+    ensures { λ r. ⌜ now r ≡ take (used n) (now (gates .entry)) ⌝ }
+{
+    let end = 4 * n;
+    &gates[..end]
 }
 
 // How many whole records a buffer holds.

@@ -4,4 +4,5 @@ pub mod EachLaws
 pub mod AddLaws
 pub mod SubLaws
 pub mod EqLaws
+pub mod MulLaws
 pub mod Paths

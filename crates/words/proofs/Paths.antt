@@ -14,6 +14,7 @@ use Rattle.gates.specs.Fold.{notBit, andBit, orBit, xnorBit, notCost, xnorCost}
 use Rattle.gates.specs.Choice.{muxBit}
 use Rattle.gates.specs.Adder.{adderBit, adderCost}
 use Rattle.gates.specs.Law.{Ext, Grows}
+use Rattle.digits.specs.Digits.{putDigits}
 use Rattle.words.specs.declared.each.Bitwise.{Bitwise}
 use Rattle.words.specs.declared.each.Bitwise.the-variants.{Not, And, Or, Xnor, AndWith, Choose}
 use Rattle.words.specs.Num.{blank}
@@ -21,12 +22,14 @@ use Rattle.words.specs.Each.{bitwise, bitCost, Word, wordOf, eachStep, e
 use Rattle.words.specs.Add.{Chain, chainOf, addStep, addOnto, chainCost, addCost, addWords}
 use Rattle.words.specs.Sub.{subWords, subCost, widened, ultWords}
 use Rattle.words.specs.Eq.{andStep, andAll, eqWords, eqCost}
+use Rattle.words.specs.Mul.{rowOf, mulStep, mulWords, mulCost}
 use Rattle.words.proofs.Sums.{sum-within}
 use Rattle.words.proofs.NumLaws.{blank-long}
 use Rattle.words.proofs.EachLaws.{each-ext, each-long, put-law}
-use Rattle.words.proofs.AddLaws.{onto-law, onto-long, copied-cost}
+use Rattle.words.proofs.AddLaws.{onto-law, onto-long, copied-cost, chain-three}
 use Rattle.words.proofs.SubLaws.{nots-less, wide-cost, wide-long}
 use Rattle.words.proofs.EqLaws.{ands-ext}
+use Rattle.words.proofs.MulLaws.{row-cost, rows-room}
 
 -- one bit, by the operation
 module _ (s : Net) (m : MadeBit) (op : Bitwise) (a b : ℕ) where
@@ -188,3 +191,25 @@ module _ (left right wl wr : List ℕ) (w : ℕ) (small : w ≤ 64) (p : wl ≡ 
 
   pub ult-long : (length wl ≡ 65) × (length wr ≡ 65)
   ult-long = (ap length p ∙ wide-long w left small, ap length q ∙ wide-long w right small)
+
+-- a row, and the chain that adds it
+module _ (w : ℕ) (left right g g₁ row out : List ℕ) (n n₁ : At) (i : ℕ) (e : wordOf g₁ n₁ row ≡ rowOf left (getD right i 0) (w - i) (netOf g n)) where
+  pub mul-room : n₁ .n + chainCost i out row (w - i) ≤ n .n + 4 * (w - i)
+  mul-room =
+      omega (arith, each-most (AndWith (getD right i 0)) left left (wordOf g n blank) g₁ row n₁ (w - i) e, row-cost left (getD right i 0) (w - i), chain-three i out row (w - i))
+
+  pub mul-path : (g₂ out₂ : List ℕ) (n₂ : At) (c₂ : ℕ) → chainOf g₂ n₂ c₂ out₂ ≡ addOnto i row (w - i) (chainOf g₁ n₁ 0 out)
+      → wordOf g₂ n₂ out₂ ≡ mulStep w left right i (wordOf g n out)
+  unfolding mulStep
+  mul-path g₂ out₂ n₂ c₂ q =
+      ap {B = Word} (λ (c : Chain). record { net = c .net; out = c .out })
+      (q ∙ ap {B = Chain} (λ (r : Word). addOnto i (r .out) (w - i) (record { net = r .net; carry = 0; out = out })) e)
+
+-- the rows onto a sum that is known false
+module _ (w : ℕ) (left right : List ℕ) (s : Word) (out₀ : List ℕ) (small : w ≤ 64) (fits : w ≤ length (s .out)) (p : out₀ ≡ putDigits 0 w (s .out)) where
+  pub mul-most : (g out : List ℕ) (n : At) (i : ℕ) → i < w → wordOf g n out ≡ iter i (mulStep w left right) (record { net = s .net; out = out₀ })
+      → n .n + 4 * (w - i) ≤ s .net .n + mulCost w
+  mul-most g out n i l e = omega (arith, ap (λ (x : Word). x .net .n) (rw p at e), rows-room w left right s (omega arith) fits i l)
+
+  pub mul-words-path : (x : Word) → x ≡ iter w (mulStep w left right) (record { net = s .net; out = out₀ }) → x ≡ mulWords w left right s
+  mul-words-path x e = rw p at e

@@ -3,3 +3,4 @@ pub mod Each
 pub mod Add
 pub mod Sub
 pub mod Eq
+pub mod Mul

@@ -2,4 +2,5 @@
 pub mod add;
 pub mod each;
 pub mod eq;
+pub mod mul;
 pub mod sub;

@@ -1,0 +1,116 @@
+// Runs the gate evaluator on the cases of standard input (tests/convert_gates.py says how they are written), and says which differ.
+ghost use Prim.Native.Nat.{_+_, _≤_, _<_};
+ghost use lib.ListN.{length};
+use cases::fill::list_u8;
+use cases::fill::list_u32;
+use cases::next_number;
+use libc::STDIN_FILENO;
+use netlist::check::number;
+use netlist::check::place;
+use netlist::eval::eval_gates;
+
+// Whether a case came out as it should, and where the next begins.
+struct Verdict {
+    same: bool,
+    next: usize,
+}
+
+// The whole buffer came out as it should: the gates' values, and the places beyond.
+fn same_values(found: &[u8], wanted: &[u8]) -> bool {
+    if found.len() != wanted.len() {
+        return false;
+    }
+    let mut i = 0;
+    while i < found.len() {
+        if found[i] != wanted[i] {
+            return false;
+        }
+        i += 1;
+    }
+    true
+}
+
+// The case's answer: refusal, gate and values.
+fn compare(
+    text: &[u8],
+    at: usize,
+    refusal: u64,
+    gate: u64,
+    values: &[u8],
+    wanted: &mut [u8],
+) -> Verdict
+    requires { ⌜ at ≤ length (now text) ⌝ }
+    ensures { λ r. ⌜ r .next ≤ length (now (text .entry)) ⌝ }
+{
+    let wanted_refusal = next_number(text, at);
+    let wanted_gate = next_number(text, wanted_refusal.next);
+    let list = list_u8(text, wanted_gate.next, wanted);
+    let n = list.n;
+    Verdict {
+        same: (refusal == wanted_refusal.value)
+            & (gate == wanted_gate.value)
+            & same_values(values, &wanted[..n]),
+        next: list.next,
+    }
+}
+
+// The evaluator runs, and its answer is held against the case's.
+fn judge(text: &[u8], at: usize, gates: &[u32], values: &mut [u8], wanted: &mut [u8]) -> Verdict
+    requires { ⌜ at ≤ length (now text) ⌝ }
+    ensures { λ r. ⌜ r .next ≤ length (now (text .entry)) ⌝ }
+{
+    let answer = eval_gates(gates, values);
+    compare(
+        text,
+        at,
+        number(answer),
+        place(answer) as u64,
+        values,
+        wanted,
+    )
+}
+
+// One case, from a place of the text on.
+fn run_case(
+    text: &[u8],
+    at: usize,
+    gates: &mut [u32],
+    values: &mut [u8],
+    wanted: &mut [u8],
+) -> Verdict
+    requires { ⌜ at ≤ length (now text) ⌝ }
+    ensures { λ r. ⌜ r .next ≤ length (now (text .entry)) ⌝ }
+{
+    let gate_list = list_u32(text, at, gates);
+    let value_list = list_u8(text, gate_list.next, values);
+    let g = gate_list.n;
+    let v = value_list.n;
+    judge(text, value_list.next, &gates[..g], &mut values[..v], wanted)
+}
+
+fn run_all(name: &[u8], text: &[u8], gates: &mut [u32], values: &mut [u8], wanted: &mut [u8]) {
+    let first = next_number(text, 0);
+    let cases = first.value;
+    let mut at = first.next;
+    let mut differ = 0;
+    let mut i = 0;
+    while i < cases {
+        let verdict = run_case(text, at, gates, values, wanted);
+        i += 1;
+        if !verdict.same {
+            differ += 1;
+            tally::report(name, i);
+        }
+        at = verdict.next;
+    }
+    tally::summary(name, cases, differ);
+}
+
+fn main() {
+    let mut text = [0u8; 262144];
+    let n = io::read_full(STDIN_FILENO, &mut text);
+    let mut gates = [0u32; 4096];
+    let mut values = [0u8; 1024];
+    let mut wanted = [0u8; 1024];
+    run_all(b"gates", &text[..n], &mut gates, &mut values, &mut wanted);
+}

@@ -1,0 +1,5 @@
+pub mod Kind
+pub mod Node
+pub mod Sheet
+pub mod Size
+pub mod Ceiling

@@ -1,0 +1,13 @@
+pub mod Number
+pub mod Line
+pub mod Over
+pub mod Put
+pub mod Write
+pub mod Name
+pub mod Key
+pub mod Rows
+pub mod Plain
+pub mod Field
+pub mod NodeLine
+pub mod Read
+pub mod TableText

@@ -1,0 +1,98 @@
+use borrow.Author.Needs.{needs}
+use borrow.Author.Tests.{eq-eqb, ne-eqb}
+use Rattle.loops.proofs.Loop.{pick-true, pick-false}
+use Rattle.values.specs.Value.{wordValue}
+use Rattle.values.proofs.value.word_value.Statement.{statement}
+use Rattle.values.proofs.value.word_value.Tie as tie
+
+returns : tie.Need-returns
+unfolding wordValue
+returns c = search (needs, eq-eqb, ne-eqb, pick-true, pick-false)
+
+not-word-requires : tie.Need-not-word-requires
+not-word-requires c κs = search needs
+
+returns-2 : tie.Need-returns-2
+unfolding wordValue
+returns-2 c = search (needs, eq-eqb, ne-eqb, pick-true, pick-false)
+
+returns-3 : tie.Need-returns-3
+unfolding wordValue
+returns-3 c = search (needs, eq-eqb, ne-eqb, pick-true, pick-false)
+
+cast-result : tie.Need-cast-result
+cast-result c = search needs
+
+returns-4 : tie.Need-returns-4
+unfolding wordValue
+returns-4 c = search (needs, eq-eqb, ne-eqb, pick-true, pick-false)
+
+add-word-requires : tie.Need-add-word-requires
+add-word-requires c κs = search needs
+
+returns-5 : tie.Need-returns-5
+unfolding wordValue
+returns-5 c = search (needs, eq-eqb, ne-eqb, pick-true, pick-false)
+
+sub-word-requires : tie.Need-sub-word-requires
+sub-word-requires c κs = search needs
+
+returns-6 : tie.Need-returns-6
+unfolding wordValue
+returns-6 c = search (needs, eq-eqb, ne-eqb, pick-true, pick-false)
+
+cast-result-2 : tie.Need-cast-result-2
+cast-result-2 c = search needs
+
+returns-7 : tie.Need-returns-7
+unfolding wordValue
+returns-7 c = search (needs, eq-eqb, ne-eqb, pick-true, pick-false)
+
+mul-word-requires : tie.Need-mul-word-requires
+mul-word-requires c κs = search needs
+
+returns-8 : tie.Need-returns-8
+unfolding wordValue
+returns-8 c = search (needs, eq-eqb, ne-eqb, pick-true, pick-false)
+
+div-word-requires : tie.Need-div-word-requires
+div-word-requires c κs = search needs
+
+returns-9 : tie.Need-returns-9
+unfolding wordValue
+returns-9 c = search (needs, eq-eqb, ne-eqb, pick-true, pick-false)
+
+rem-word-requires : tie.Need-rem-word-requires
+rem-word-requires c κs = search needs
+
+returns-10 : tie.Need-returns-10
+unfolding wordValue
+returns-10 c = search (needs, eq-eqb, ne-eqb, pick-true, pick-false)
+
+returns-11 : tie.Need-returns-11
+unfolding wordValue
+returns-11 c = search (needs, eq-eqb, ne-eqb, pick-true, pick-false)
+
+pub word-value-spec : {M : Type 1} → statement M
+word-value-spec =
+    tie.close
+    (tie.spec
+    returns
+    not-word-requires
+    returns-2
+    returns-3
+    cast-result
+    returns-4
+    add-word-requires
+    returns-5
+    sub-word-requires
+    returns-6
+    cast-result-2
+    returns-7
+    mul-word-requires
+    returns-8
+    div-word-requires
+    returns-9
+    rem-word-requires
+    returns-10
+    returns-11)

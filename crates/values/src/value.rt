@@ -1,0 +1,134 @@
+ghost use mathlib.Core.Path.{_≡_};
+ghost use Prim.Native.Nat.{_-_, _*_, _%_, _^_, _≤_};
+ghost use Rattle.values.specs.Value.{notWord, addWord, subWord, mulWord, divWord, remWord, wordValue};
+use table::Node;
+use table::kind::ADD;
+use table::kind::AND;
+use table::kind::CONST;
+use table::kind::DIVU;
+use table::kind::EQ;
+use table::kind::MUL;
+use table::kind::NOT;
+use table::kind::REM;
+use table::kind::SUB;
+use table::kind::ULT;
+
+// x modulo 2^v.
+fn reduce(x: u64, v: u64) -> u64
+    ensures { λ r. ⌜ r ≡ x % 2 ^ v ⌝ }
+{
+    if v < 64 {
+        return x % (1 << v);
+    }
+    x
+}
+
+// v ones.
+fn mask(v: u64) -> u64
+    requires { ⌜ v ≤ 64 ⌝ }
+    ensures { λ r. ⌜ r ≡ 2 ^ v - 1 ⌝ }
+{
+    if v < 64 {
+        return (1 << v) - 1;
+    }
+    18446744073709551615
+}
+
+// The low half of a product, from the halves of its factors: no product on the way wraps.
+fn mul_low(x: u64, y: u64) -> u64
+    ensures { λ r. ⌜ r ≡ x * y % 2 ^ 64 ⌝ }
+{
+    let x1 = x >> 32;
+    let x0 = x % 4294967296;
+    let y1 = y >> 32;
+    let y0 = y % 4294967296;
+    let mid = std::num::wrapping_add_u64(x1 * y0, x0 * y1);
+    std::num::wrapping_add_u64(mid << 32, x0 * y0)
+}
+
+fn not_word(v: u64, x: u64) -> u64
+    requires { ⌜ v ≤ 64 ⌝ }
+    ensures { λ r. ⌜ r ≡ notWord v x ⌝ }
+{
+    mask(v) - reduce(x, v)
+}
+
+fn add_word(v: u64, x: u64, y: u64) -> u64
+    requires { ⌜ v ≤ 64 ⌝ }
+    ensures { λ r. ⌜ r ≡ addWord v x y ⌝ }
+{
+    reduce(std::num::wrapping_add_u64(x, y), v)
+}
+
+fn sub_word(v: u64, x: u64, y: u64) -> u64
+    requires { ⌜ v ≤ 64 ⌝ }
+    ensures { λ r. ⌜ r ≡ subWord v x y ⌝ }
+{
+    reduce(std::num::wrapping_sub_u64(x, y), v)
+}
+
+fn mul_word(v: u64, x: u64, y: u64) -> u64
+    requires { ⌜ v ≤ 64 ⌝ }
+    ensures { λ r. ⌜ r ≡ mulWord v x y ⌝ }
+{
+    reduce(mul_low(x, y), v)
+}
+
+fn div_word(v: u64, x: u64, y: u64) -> u64
+    requires { ⌜ v ≤ 64 ⌝ }
+    ensures { λ r. ⌜ r ≡ divWord v x y ⌝ }
+{
+    if y == 0 {
+        return mask(v);
+    }
+    x / y
+}
+
+fn rem_word(x: u64, y: u64) -> u64
+    ensures { λ r. ⌜ r ≡ remWord x y ⌝ }
+{
+    if y == 0 {
+        return x;
+    }
+    x % y
+}
+
+// A word node's value, over the values x and y of its operands.
+pub fn word_value(node: Node, x: u64, y: u64) -> u64
+    requires { ⌜ node .width ≤ 64 ⌝ }
+    ensures { λ r. ⌜ r ≡ wordValue node x y ⌝ }
+{
+    let k = node.kind;
+    let v = node.width;
+    if k == CONST {
+        return node.imm;
+    }
+    if k == NOT {
+        return not_word(v, x);
+    }
+    if k == AND {
+        return x & y;
+    }
+    if k == EQ {
+        return (x == y) as u64;
+    }
+    if k == ADD {
+        return add_word(v, x, y);
+    }
+    if k == SUB {
+        return sub_word(v, x, y);
+    }
+    if k == ULT {
+        return (x < y) as u64;
+    }
+    if k == MUL {
+        return mul_word(v, x, y);
+    }
+    if k == DIVU {
+        return div_word(v, x, y);
+    }
+    if k == REM {
+        return rem_word(x, y);
+    }
+    x
+}

@@ -1,0 +1,53 @@
+-- What the code's proof cites: a visit path by path, and that it keeps the room.
+use mathlib.Core.Path.{_≡_, refl, sym, ap, _∙_, subst}
+use mathlib.Core.List.{List}
+use Prim.Native.Nat.{ℕ, zero, suc, _+_, _*_, _≤_, _<_}
+use native.Mathlib.Omega.{arith}
+use borrow.Author.Tests.{eq-eqb, ne-eqb}
+use lib.Dec.{eqb}
+use lib.ListN.{getD, set}
+use Rattle.loops.specs.Loop.{pick}
+use Rattle.visits.specs.Flow.{Core, Low, Recipe, owned, enter, mark, visitTo}
+use Rattle.visits.specs.Claims.{Shape, OwnLaw}
+use Rattle.visits.proofs.Later.{Later, Sound, sound-later, visit-later}
+use Rattle.visits.proofs.Walk.{Fit, fit-later}
+
+module _ (R : Recipe) (k : ℕ) where
+  pub visit-stopped : (f : ℕ) (s : Low) → (s .core .stop ≡ 0 → ⊥) → s ≡ visitTo f R k s
+  unfolding visitTo pick
+  visit-stopped zero s h = refl
+  visit-stopped (suc f) s h = sym (simp (ne-eqb _ _ h))
+
+  pub visit-none : (f : ℕ) (s : Low) → s .core .stop ≡ 0 → k ≡ 0 → s ≡ visitTo f R k s
+  unfolding visitTo pick
+  visit-none zero s h z = refl
+  visit-none (suc f) s h z = sym (simp (eq-eqb _ _ h, eq-eqb _ _ z))
+
+  pub visit-seen : (f : ℕ) (s : Low) → s .core .stop ≡ 0 → (k ≡ 0 → ⊥) → getD (s .seen) k 0 ≡ 1 → s ≡ visitTo f R k s
+  unfolding visitTo pick
+  visit-seen zero s h z e = refl
+  visit-seen (suc f) s h z e = sym (simp (eq-eqb _ _ h, ne-eqb _ _ z, eq-eqb _ _ e))
+
+  pub visit-goes : (f : ℕ) (s r : Low) → k < f → s .core .stop ≡ 0 → (k ≡ 0 → ⊥) → (getD (s .seen) k 0 ≡ 1 → ⊥)
+      → ((g : ℕ) → k ≤ g → r ≡ enter (visitTo g R) R k (record { core = s .core; seen = set (s .seen) k 1 })) → r ≡ visitTo f R k s
+  unfolding visitTo mark pick
+  visit-goes zero s r lt h z e step = absurd (omega arith)
+  visit-goes (suc f) s r lt h z e step = step f (omega arith) ∙ sym (simp (eq-eqb _ _ h, ne-eqb _ _ z, ne-eqb _ _ e))
+
+  -- the visits of a node's operands one by one, and then its own gates
+  pub enter-done : (go : ℕ → Low → Low) (s s1 s2 s3 : Low) (r : Core) {a b c : ℕ} → a ≡ R .first k → s1 ≡ go a s → b ≡ R .second (s1 .core .map) k → s2 ≡ go b s1
+      → c ≡ R .third (s2 .core .map) k → s3 ≡ go c s2 → r ≡ R .own k (s3 .core) → _≡_ {A = Low} (record { core = r; seen = s3 .seen }) (enter go R k s)
+  unfolding enter owned
+  enter-done go s s1 s2 s3 r {a} {b} {c} ea e1 eb e2 ec e3 er =
+      let p1 : s1 ≡ go (R .first k) s = e1 ∙ ap (λ (x : ℕ). go x s) ea in
+      let S1 : Low = go (R .first k) s in
+      let p2 : s2 ≡ go (R .second (S1 .core .map) k) S1 = e2 ∙ ap (λ (x : ℕ). go x s1) eb ∙ ap (λ (x : Low). go (R .second (x .core .map) k) x) p1 in
+      let S2 : Low = go (R .second (S1 .core .map) k) S1 in
+      let p3 : s3 ≡ go (R .third (S2 .core .map) k) S2 = e3 ∙ ap (λ (x : ℕ). go x s2) ec ∙ ap (λ (x : Low). go (R .third (x .core .map) k) x) p2 in
+      ap {B = Low} (λ (x : Core). record { core = x; seen = s3 .seen }) er ∙ ap {B = Low} (λ (x : Low). record { core = R .own k (x .core); seen = x .seen }) p3
+
+-- after a visit there is as much room as before
+pub fit-visit : {R : Recipe} (sh : Shape R) (law : OwnLaw R) {e f k : ℕ} {s r : Low} → Sound R s → Fit R e f s → k < R .size → ((g : ℕ) → k < g → r ≡ visitTo g R k s) → Sound R r × Fit R e f r
+fit-visit {R} sh law {e} {f} {k} {s} {r} d h lt eq =
+    let l : Later R k 0 0 s r = subst (λ (x : Low). Later R k 0 0 s x) (sym (eq (suc k) (omega arith))) (visit-later sh law (suc k) k s d lt) in
+    (sound-later d l, fit-later h l)
