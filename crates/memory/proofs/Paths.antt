@@ -6,13 +6,13 @@ use Prim.Native.Nat.{ℕ, zero, suc, _+_, _*_, _-_, _≤_, _<_}
 use native.Mathlib.Omega.{arith}
 use native.Mathlib.Nat.{mul-le-mul-right}
 use lib.Dec.{eqb, ltb}
-use lib.ListN.{length, getD, set, take, drop, length-set}
+use lib.ListN.{length, getD, set, take, drop}
 use borrow.Author.Tests.{eq-eqb, ne-eqb, lt-ltb, le-ltb}
 use Rattle.loops.specs.Loop.{pick, iter, first}
-use Rattle.loops.proofs.Loop.{pick-true, pick-false, iter-inv, first-more, first-found}
+use Rattle.loops.proofs.Loop.{by-pick, iter-inv, first-more, first-found}
 use Rattle.netlist.specs.Net.{Net}
 use Rattle.gates.specs.declared.made.At.{At}
-use Rattle.gates.specs.Made.{MadeBit, netOf, madeOf, Fits}
+use Rattle.gates.specs.Made.{MadeBit, netOf, madeOf}
 use Rattle.gates.specs.Law.{Ext}
 use Rattle.gates.proofs.Laws.{ext-refl, ext-trans, ext-weaken}
 use Rattle.digits.specs.Digits.{putDigits, Below, allKnown, knownNumber}
@@ -20,12 +20,11 @@ use Rattle.digits.proofs.Words.{all-true}
 use Rattle.words.specs.declared.each.Bitwise.{Bitwise}
 use Rattle.words.specs.declared.each.Bitwise.the-variants.{Or, AndWith, Choose}
 use Rattle.words.specs.Num.{blank}
-use Rattle.words.specs.Each.{Word, wordOf, eachStep, eachBit, eachCost, copyStep, putBits}
+use Rattle.words.specs.Each.{Word, wordOf, eachStep, eachBit, eachCost, putBits}
 use Rattle.words.specs.Eq.{eqWords, eqCost}
 use Rattle.words.proofs.NumLaws.{blank-long}
-use Rattle.words.proofs.EachLaws.{each-long}
 use Rattle.words.proofs.EqLaws.{eq-left}
-use Rattle.words.proofs.Paths.{each-most, each-gates}
+use Rattle.words.proofs.Paths.{each-most}
 use Rattle.memory.specs.Address.{part, isListed, listedAt, atListed}
 use Rattle.memory.specs.Read.{cleared, readKnown, readOne, readStep, readWords}
 use Rattle.memory.specs.Write.{writeKnown, writeStep, writeWords}
@@ -52,10 +51,9 @@ module _ (w a : ℕ) (adr d : List ℕ) (e : d ≡ putDigits a w blank) where
   unfolding atListed
   at-path s m q = rw (← e) q
 
-pub at-most : (w a : ℕ) (adr : List ℕ) (s : Net) (g : List ℕ) (n : At) (b : ℕ) → 1 ≤ w → w ≤ 64 → madeOf g n b ≡ atListed w a adr s
-    → (n .n ≤ s .n + (2 * w - 1)) × (length g ≡ length (s .gates))
-at-most w a adr s g n b big small e =
-    (omega (arith, ap (λ (m : MadeBit). m .net .n) e, at-ext w a adr s big small .grows .upto), ap (λ (m : MadeBit). length (m .net .gates)) e ∙ at-ext w a adr s big small .grows .long)
+at-most : (w a : ℕ) (adr : List ℕ) (s : Net) (g : List ℕ) (n : At) (b : ℕ) → 1 ≤ w → w ≤ 64 → madeOf g n b ≡ atListed w a adr s
+    → n .n ≤ s .n + (2 * w - 1)
+at-most w a adr s g n b big small e = omega (arith, ap (λ (m : MadeBit). m .net .n) e, at-ext w a adr s big small .grows .upto)
 
 -- a known address
 module _ (n w : ℕ) (addrs mem : List ℕ) (a i : ℕ) (out out′ : List ℕ) (e : i ≡ listedAt n addrs a) where
@@ -88,11 +86,9 @@ module _ (w a : ℕ) (word adr g g₁ : List ℕ) (n n₁ : At) (b : ℕ) (big :
   ands-room = omega (arith, at-most w a adr (netOf g n) g₁ n₁ b big small p, ands-cost b word w)
 
   module _ (g₂ ands : List ℕ) (n₂ : At) (q : wordOf g₂ n₂ ands ≡ eachBit (AndWith b) word word w (wordOf g₁ n₁ blank)) (out old : List ℕ) (r : old ≡ putBits 0 out w blank) where
-    pub ors-room : (n₂ .n + eachCost Or old ands w ≤ n .n + (4 * w - 1)) × (length g₂ ≡ length g)
-    ors-room = (
-      omega (arith, at-most w a adr (netOf g n) g₁ n₁ b big small p, ands-cost b word w, ors-cost old ands w, each-most (AndWith b) word word (wordOf g₁ n₁ blank) g₂ ands n₂ w q),
-      each-gates (AndWith b) word word (wordOf g₁ n₁ blank) g₂ ands n₂ w q ∙ at-most w a adr (netOf g n) g₁ n₁ b big small p .1,
-    )
+    pub ors-room : n₂ .n + eachCost Or old ands w ≤ n .n + (4 * w - 1)
+    ors-room =
+        omega (arith, at-most w a adr (netOf g n) g₁ n₁ b big small p, ands-cost b word w, ors-cost old ands w, each-most (AndWith b) word word (wordOf g₁ n₁ blank) g₂ ands n₂ w q)
 
     pub read-one-path : (t : Word) → t ≡ eachBit Or old ands w (wordOf g₂ n₂ out) → t ≡ readOne w a word adr (wordOf g n out)
     unfolding readOne
@@ -109,8 +105,8 @@ read-step-path w i addrs mem adr s t e = let p : i * w + w - i * w ≡ w = omega
 
 -- Write at one listed address
 module _ (w i : ℕ) (addrs adr val g g₁ : List ℕ) (n n₁ : At) (b : ℕ) (big : 1 ≤ w) (small : w ≤ 64) (p : madeOf g₁ n₁ b ≡ atListed w (getD addrs i 0) adr (netOf g n)) where
-  pub choose-fits : (mem : List ℕ) → Fits g n (5 * w - 1) → Fits g₁ n₁ (eachCost (Choose b) val (take (i * w + w - i * w) (drop (i * w) mem)) w)
-  choose-fits mem h = omega (arith, at-most w (getD addrs i 0) adr (netOf g n) g₁ n₁ b big small p, choose-cost b val (take (i * w + w - i * w) (drop (i * w) mem)) w)
+  pub choose-room : (mem : List ℕ) → n₁ .n + eachCost (Choose b) val (take (i * w + w - i * w) (drop (i * w) mem)) w ≤ n .n + (5 * w - 1)
+  choose-room mem = omega (arith, at-most w (getD addrs i 0) adr (netOf g n) g₁ n₁ b big small p, choose-cost b val (take (i * w + w - i * w) (drop (i * w) mem)) w)
 
   pub write-step-path : (mem mem′ g₂ word : List ℕ) (n₂ : At) → wordOf g₂ n₂ word ≡ eachBit (Choose b) val (take (i * w + w - i * w) (drop (i * w) mem)) w (wordOf g₁ n₁ blank)
       → mem′ ≡ putBits (i * w) word w mem → wordOf g₂ n₂ mem′ ≡ writeStep w addrs adr val i (wordOf g n mem)
@@ -123,61 +119,33 @@ module _ (w i : ℕ) (addrs adr val g g₁ : List ℕ) (n n₁ : At) (b : ℕ) (
       put : Word → Word
       put x = record { net = x .net; out = putBits (i * w) (x .out) w mem }
 
-put-length : (from : ℕ) (bits : List ℕ) (w : ℕ) (map : List ℕ) → length (putBits from bits w map) ≡ length map
-unfolding copyStep
-put-length from bits w map = iter-inv (λ i l. length l ≡ length map) (copyStep from bits) map w refl (λ i l lt e. length-set l (from + i) _ ∙ e)
-
 -- a loop over the listed addresses, each at most k gates
-module _ (f : ℕ → Word → Word) (k : ℕ) (ext : (i : ℕ) (s : Word) → Ext (s .net) (f i s .net) k) (long : (i : ℕ) (s : Word) → length (f i s .out) ≡ length (s .out)) where
+module _ (f : ℕ → Word → Word) (k : ℕ) (ext : (i : ℕ) (s : Word) → Ext (s .net) (f i s .net) k) where
   each-listed : (s : Word) (i : ℕ) → Ext (s .net) (iter i f s .net) (i * k)
   each-listed s i =
       iter-inv (λ j (x : Word). Ext (s .net) (x .net) (j * k)) f s i (ext-refl (s .net) (0 * k))
       (λ j x lt h. ext-weaken (s .net) _ (j * k + k) (suc j * k) (omega arith) (ext-trans (s .net) (x .net) _ (j * k) k h (ext j x)))
 
   module _ (s : Word) (g out : List ℕ) (n : At) (i : ℕ) (e : wordOf g n out ≡ iter i f s) where
-    pub listed-gates : length g ≡ length (s .net .gates)
-    listed-gates = ap (λ (x : Word). length (x .net .gates)) e ∙ each-listed s i .grows .long
-
-    pub listed-out : length out ≡ length (s .out)
-    listed-out = ap (λ (x : Word). length (x .out)) e ∙ iter-inv (λ j (x : Word). length (x .out) ≡ length (s .out)) f s i refl (λ j x lt h. long j x ∙ h)
-
     pub listed-room : (m : ℕ) → i < m → n .n + k ≤ s .net .n + m * k
     listed-room m l = omega (arith, ap (λ (x : Word). x .net .n) e, each-listed s i .grows .upto, mul-le-mul-right {m = suc i} {n = m} k l)
 
-module _ (w : ℕ) (addrs mem adr : List ℕ) (big : 1 ≤ w) (small : w ≤ 64) (s : Word) (g out : List ℕ) (n : At) (i : ℕ) (e : wordOf g n out ≡ iter i (readStep w addrs mem adr) s) where
+module _ (w : ℕ) (addrs mem adr : List ℕ) (big : 1 ≤ w) (small : w ≤ 64) where
   reads-ext : (j : ℕ) (x : Word) → Ext (x .net) (readStep w addrs mem adr j x .net) (4 * w - 1)
   unfolding readStep
   reads-ext j x = one-ext w (getD addrs j 0) (part j w mem) adr x big small
 
-  reads-long : (j : ℕ) (x : Word) → length (readStep w addrs mem adr j x .out) ≡ length (x .out)
-  unfolding readStep readOne
-  reads-long j x = each-long Or (x .out) _ _ w
+  module _ (s : Word) (g out : List ℕ) (n : At) (i : ℕ) (e : wordOf g n out ≡ iter i (readStep w addrs mem adr) s) where
+    pub reads-room : (m : ℕ) → i < m → n .n + (4 * w - 1) ≤ s .net .n + m * (4 * w - 1)
+    reads-room = listed-room (readStep w addrs mem adr) (4 * w - 1) reads-ext s g out n i e
 
-  pub reads-gates : length g ≡ length (s .net .gates)
-  reads-gates = listed-gates (readStep w addrs mem adr) (4 * w - 1) reads-ext reads-long s g out n i e
-
-  pub reads-out : length out ≡ length (s .out)
-  reads-out = listed-out (readStep w addrs mem adr) (4 * w - 1) reads-ext reads-long s g out n i e
-
-  pub reads-room : (m : ℕ) → i < m → n .n + (4 * w - 1) ≤ s .net .n + m * (4 * w - 1)
-  reads-room = listed-room (readStep w addrs mem adr) (4 * w - 1) reads-ext reads-long s g out n i e
-
-module _ (w : ℕ) (addrs adr val : List ℕ) (big : 1 ≤ w) (small : w ≤ 64) (s : Word) (g out : List ℕ) (n : At) (i : ℕ) (e : wordOf g n out ≡ iter i (writeStep w addrs adr val) s) where
+module _ (w : ℕ) (addrs adr val : List ℕ) (big : 1 ≤ w) (small : w ≤ 64) where
   writes-ext : (j : ℕ) (x : Word) → Ext (x .net) (writeStep w addrs adr val j x .net) (5 * w - 1)
   writes-ext j x = step-ext w addrs adr val j x big small
 
-  writes-long : (j : ℕ) (x : Word) → length (writeStep w addrs adr val j x .out) ≡ length (x .out)
-  unfolding writeStep
-  writes-long j x = put-length (j * w) _ w (x .out)
-
-  pub writes-gates : length g ≡ length (s .net .gates)
-  writes-gates = listed-gates (writeStep w addrs adr val) (5 * w - 1) writes-ext writes-long s g out n i e
-
-  pub writes-out : length out ≡ length (s .out)
-  writes-out = listed-out (writeStep w addrs adr val) (5 * w - 1) writes-ext writes-long s g out n i e
-
-  pub writes-room : (m : ℕ) → i < m → n .n + (5 * w - 1) ≤ s .net .n + m * (5 * w - 1)
-  writes-room = listed-room (writeStep w addrs adr val) (5 * w - 1) writes-ext writes-long s g out n i e
+  module _ (s : Word) (g out : List ℕ) (n : At) (i : ℕ) (e : wordOf g n out ≡ iter i (writeStep w addrs adr val) s) where
+    pub writes-room : (m : ℕ) → i < m → n .n + (5 * w - 1) ≤ s .net .n + m * (5 * w - 1)
+    writes-room = listed-room (writeStep w addrs adr val) (5 * w - 1) writes-ext s g out n i e
 
 -- the address's width is its length
 module _ (w : ℕ) (adr : List ℕ) (k : Bool) (lw : w ≡ length adr) (ek : k ≡ allKnown (length adr) adr) where
@@ -208,3 +176,16 @@ module _ (w : ℕ) (adr : List ℕ) (k : Bool) (lw : w ≡ length adr) (ek : k �
       → wordOf g′ n′ mem′ ≡ iter N (writeStep w addrs adr val) (wordOf g n mem) → wordOf g′ n′ mem′ ≡ writeWords N w addrs adr val (wordOf g n mem)
   unfolding writeWords pick
   write-at-other N addrs val g g′ mem mem′ n n′ t e = rw (ap (λ (z : ℕ). allKnown z adr) lw ∙ (sym ek ∙ t)) e
+
+-- growth at any addresses, distinct or not
+pub read-ext : (n w : ℕ) (addrs mem adr : List ℕ) → 1 ≤ w → w ≤ 64 → (s : Word) → Ext (s .net) (readWords n w addrs mem adr s .net) (n * (4 * w - 1))
+unfolding readWords
+read-ext n w addrs mem adr big small s =
+    by-pick (λ (t : Word). Ext (s .net) (t .net) (n * (4 * w - 1))) (allKnown w adr) _ _ (λ k. ext-refl (s .net) (n * (4 * w - 1)))
+    (λ k. each-listed (readStep w addrs mem adr) (4 * w - 1) (reads-ext w addrs mem adr big small) (record { net = s .net; out = cleared w (s .out) }) n)
+
+pub write-ext : (n w : ℕ) (addrs adr val : List ℕ) → 1 ≤ w → w ≤ 64 → (s : Word) → Ext (s .net) (writeWords n w addrs adr val s .net) (n * (5 * w - 1))
+unfolding writeWords
+write-ext n w addrs adr val big small s =
+    by-pick (λ (t : Word). Ext (s .net) (t .net) (n * (5 * w - 1))) (allKnown w adr) _ _ (λ k. ext-refl (s .net) (n * (5 * w - 1)))
+    (λ k. each-listed (writeStep w addrs adr val) (5 * w - 1) (writes-ext w addrs adr val big small) s n)

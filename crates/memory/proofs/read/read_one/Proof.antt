@@ -1,6 +1,6 @@
 use Rattle.words.specs.Num.{blank}
 use native.Mathlib.Omega.{arith}
-use Rattle.memory.proofs.Paths.{ands-room, ors-room, read-one-path, at-most}
+use Rattle.memory.proofs.Paths.{ands-room, ors-room, read-one-path}
 use borrow.Author.Needs.{needs}
 use Rattle.memory.proofs.read.read_one.Statement.{statement}
 use Rattle.memory.proofs.read.read_one.Tie as tie

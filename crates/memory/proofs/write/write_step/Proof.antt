@@ -1,6 +1,6 @@
 use Rattle.words.specs.Num.{blank}
 use native.Mathlib.Omega.{arith}
-use Rattle.memory.proofs.Paths.{choose-fits, write-step-path}
+use Rattle.memory.proofs.Paths.{choose-room, write-step-path}
 use borrow.Author.Needs.{needs}
 use Rattle.memory.proofs.write.write_step.Statement.{statement}
 use Rattle.memory.proofs.write.write_step.Tie as tie
@@ -42,7 +42,7 @@ slice-aggregate-each-bit c = search needs
 
 each-bit-requires : tie.Need-each-bit-requires
 unfolding blank
-each-bit-requires c κs = (choose-fits (c .before .before .before .before .before .before .before .before .before .before .before .before .before .before .args .w) (c .before .before .before .before .before .before .before .before .before .before .before .before .before .before .args .i) (c .before .before .before .before .before .before .before .before .before .before .before .before .before .before .args .addrs .now) (c .before .before .before .before .before .before .before .before .before .before .before .before .before .before .args .adr .now) (c .before .before .before .before .before .before .before .before .before .before .before .before .before .before .args .val .now) _ _ _ _ _ (c .before .before .before .before .before .before .before .before .before .before .before .before .before .before .pre .1 .0 .0) (c .before .before .before .before .before .before .before .before .before .before .before .before .before .before .pre .1 .0 .1) (c .before .before .before .before .before .before .at-listed .ensures) (c .before .before .before .before .before .before .before .before .before .before .before .before .before .before .args .mem .now) (c .before .before .before .before .before .before .before .before .before .before .before .before .before .before .pre .0), search needs)
+each-bit-requires c κs = omega (arith, choose-room (c .before .before .before .before .before .before .before .before .before .before .before .before .before .before .args .w) (c .before .before .before .before .before .before .before .before .before .before .before .before .before .before .args .i) (c .before .before .before .before .before .before .before .before .before .before .before .before .before .before .args .addrs .now) (c .before .before .before .before .before .before .before .before .before .before .before .before .before .before .args .adr .now) (c .before .before .before .before .before .before .before .before .before .before .before .before .before .before .args .val .now) _ _ _ _ _ (c .before .before .before .before .before .before .before .before .before .before .before .before .before .before .pre .1 .0 .0) (c .before .before .before .before .before .before .before .before .before .before .before .before .before .before .pre .1 .0 .1) (c .before .before .before .before .before .before .at-listed .ensures) (c .before .before .before .before .before .before .before .before .before .before .before .before .before .before .args .mem .now))
 
 slice-aggregate-put-bits : tie.Need-slice-aggregate-put-bits
 slice-aggregate-put-bits c = search needs
