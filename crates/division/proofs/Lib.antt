@@ -1,0 +1,5 @@
+pub mod ConstraintLaws
+pub mod RowLaws
+pub mod CheckLaws
+pub mod PairLaws
+pub mod DivideLaws

@@ -1,0 +1,1 @@
+// Unsigned division: quotient and remainder as free gates, and the constraints that they obey.
