@@ -3,3 +3,5 @@ pub mod RowLaws
 pub mod CheckLaws
 pub mod PairLaws
 pub mod DivideLaws
+pub mod SolveLaws
+pub mod KnownLaws
