@@ -34,7 +34,7 @@ use Rattle.words.proofs.MulLaws.{placed-law}
 use Rattle.words.proofs.MulLaws as mul
 use Rattle.division.specs.Constraint.{Cons, ConRoom, constrain, constrainEach, Holds, Within, More, ConLaw}
 use Rattle.division.specs.Rows.{Checked, divRows, rowsCost, rowsCount, RowsLaw}
-use Rattle.division.specs.Check.{Book, checkWords, Divides, checkCost, conCount, CheckLaw}
+use Rattle.division.specs.Check.{Book, sumWords, checkWords, Divides, sumCost, sumCount, checkCost, conCount, CheckLaw}
 use Rattle.division.proofs.ConstraintLaws.{more-trans, more-as, room-back, holds-split, within-join, one-law, then-law, All}
 use Rattle.division.proofs.ConstraintLaws as cons
 use Rattle.division.proofs.RowLaws.{fits, rows-law}
@@ -110,6 +110,17 @@ module _ (w : ℕ) (quot rem n d : List ℕ) (s : Book) (small : w ≤ 64) where
   a : OntoLaw w 0 w rem (record { net = p .net; carry = 0; out = p .out }) c
   unfolding c
   a = placed-law w 0 w rem (record { net = p .net; carry = 0; out = p .out }) (zero-add w) (omega (arith, rows .long, blank-long))
+
+  -- what the sum has made
+  pub sum-upto : sumWords w quot rem d s .net .n ≤ s .net .n + sumCost w
+  unfolding sumWords p c
+  sum-upto = omega (arith, rows .ext .grows .upto, a .ext .grows .upto, cost-all w)
+
+  pub sum-more : More (s .cons) (sumWords w quot rem d s .cons) (sumCount w)
+  unfolding sumWords p c
+  sum-more =
+      more-as (s .cons) _ (rowsCount w + 1) (sumCount w) (omega (arith, count-all w))
+      (more-trans (s .cons) (p .cons) _ (rowsCount w) 1 (rows .more) (cons.more-one (p .cons) (c .carry) 0))
 
   x : Word
   x = eachBit Xnor n (c .out) w (record { net = c .net; out = blank })
@@ -190,7 +201,7 @@ module _ (w : ℕ) (quot rem n d : List ℕ) (s : Book) (small : w ≤ 64) where
       (forX (gates.room-back (x .net) (u .net) (4 * w + 1) (ul .ext .grows) rm) i f .0)
 
   pub check-law : CheckLaw w quot rem n d s (checkWords w quot rem n d s)
-  unfolding checkWords p c x u y
+  unfolding checkWords sumWords p c x u y
   check-law =
       record {
         ext = from-s;

@@ -128,6 +128,13 @@ then-law {s = s} {t = t} {u = u} {j = j} {k = k} a b =
       within = λ room n i. within-join s t u k n n (omega arith) (b .more) (a .within (room-back t u k (b .more) room) n (i .0)) (b .within room n (i .1));
     }
 
+-- a word's bits, whatever the value
+pub each-more : (bits : List ℕ) (v : ℕ) (s : Cons) (k : ℕ) → More s (constrainEach bits v k s) k
+unfolding conStep
+each-more bits v s k =
+    iter-inv (λ i x. More s x i) (conStep bits v) s k (more-refl s)
+    (λ i x lt h. more-as s _ (i + 1) (suc i) (omega arith) (more-trans s x _ i 1 h (more-one x (getD bits i 0) v)))
+
 -- a word's bits, each with the value v
 abbrev pub All : List ℕ → ℕ → ℕ → Assign → Type 0
 All bits v k e = (j : ℕ) → j < k → bit (e (getD bits j 0)) ≡ v

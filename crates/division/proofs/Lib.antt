@@ -5,3 +5,4 @@ pub mod PairLaws
 pub mod DivideLaws
 pub mod SolveLaws
 pub mod KnownLaws
+pub mod Paths

@@ -27,17 +27,29 @@ pub record Book : Type 0 where
 abbrev pub bookOf : List ℕ → At → List ℕ → ℕ → Book
 bookOf g a l m = record { net = netOf g a; cons = consOf l m }
 
-unfoldable pub checkWords : ℕ → List ℕ → List ℕ → List ℕ → List ℕ → Book → Book
-checkWords w quot rem n d s =
+-- quotient times divisor, and the remainder added
+unfoldable pub sumWords : ℕ → List ℕ → List ℕ → List ℕ → Book → Checked
+sumWords w quot rem d s =
     let p : Checked = divRows w quot d (s .net) (s .cons) in
     let c : Chain = addOnto 0 rem w (record { net = p .net; carry = 0; out = p .out }) in
-    let x : Word = eachBit Xnor n (c .out) w (record { net = c .net; out = blank }) in
+    record { net = c .net; cons = constrain (p .cons) (c .carry) 0; out = c .out }
+
+unfoldable pub checkWords : ℕ → List ℕ → List ℕ → List ℕ → List ℕ → Book → Book
+checkWords w quot rem n d s =
+    let p : Checked = sumWords w quot rem d s in
+    let x : Word = eachBit Xnor n (p .out) w (record { net = p .net; out = blank }) in
     let u : MadeBit = ultWords w rem d (x .net) in
-    record { net = u .net; cons = constrain (constrainEach (x .out) 1 w (constrain (p .cons) (c .carry) 0)) (u .bit) 1 }
+    record { net = u .net; cons = constrain (constrainEach (x .out) 1 w (p .cons)) (u .bit) 1 }
 
 -- what the constraints say, of natural numbers with no modulus
 abbrev pub Divides : ℕ → List ℕ → List ℕ → List ℕ → List ℕ → Assign → Type 0
 Divides w quot rem n d e = (num e quot w * num e d w + num e rem w ≡ num e n w) × (num e rem w < num e d w)
+
+abbrev pub sumCost : ℕ → ℕ
+sumCost w = mulCost w + w * (w - 1) / 2 + 3 * w
+
+abbrev pub sumCount : ℕ → ℕ
+sumCount w = w * (w - 1) / 2 + w + 1
 
 abbrev pub checkCost : ℕ → ℕ
 checkCost w = mulCost w + w * (w - 1) / 2 + 9 * w + 1
