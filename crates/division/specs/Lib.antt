@@ -1,0 +1,6 @@
+pub mod Constraint
+pub mod Rows
+pub mod Check
+pub mod Pair
+pub mod Known
+pub mod Divide

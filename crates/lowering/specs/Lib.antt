@@ -1,0 +1,3 @@
+pub mod Source
+pub mod Own
+pub mod Lower

@@ -1,0 +1,3 @@
+pub mod Address
+pub mod Read
+pub mod Write
