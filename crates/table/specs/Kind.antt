@@ -86,3 +86,7 @@ compares k = eqb k EQ || eqb k ULT
 
 abbrev pub divides : ℕ → Bool
 divides k = eqb k DIVU || eqb k REM
+
+-- read and write have an address
+abbrev pub accesses : ℕ → Bool
+accesses k = eqb k READ || eqb k WRITE

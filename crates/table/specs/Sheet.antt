@@ -58,25 +58,25 @@ operandsGood i d =
     && operand (usesC (d .kind)) (usesC (d .kind)) i (d .c)
     && (usesImm (d .kind) || eqb (d .imm) 0)
 
--- 6 SORT: a sort rule broken. va, vb and vc are the widths of the operands; the lines are those of document 01, in its order:
--- const is a word with imm below 2^width;
--- input and state are words or memories, an initial node has the state's sort;
--- not and those of `evenly` are words with all widths equal;
--- bad is 1 wide over 1;
--- ext takes a word and is 64 wide;
--- eq and ult are 1 wide over two words of one width;
--- ite has a condition 1 wide and one sort for the rest;
--- addresses, values and reads are W wide
+-- 6 SORT: a sort rule broken. va, vb and vc are the widths of the operands; the lines are document 01's, in its order
 unfoldable pub sortGood : ℕ → Node → ℕ → ℕ → ℕ → Bool
 sortGood w d va vb vc =
     leb (d .width) 64
+    -- const is a word with imm below 2^width
     && ((eqb (d .kind) CONST && leb 1 (d .width) && ltb (d .imm) (2 ^ d .width))
+    -- input and state are words or memories; an initial node has the state's sort
     || (eqb (d .kind) INPUT) || (eqb (d .kind) STATE && (eqb (d .a) 0 || eqb va (d .width)))
+    -- not, and, add, sub, mul, divu and rem are words with all widths equal
     || (eqb (d .kind) NOT && leb 1 (d .width) && eqb va (d .width)) || (evenly (d .kind) && leb 1 (d .width) && eqb va (d .width) && eqb vb (d .width))
+    -- bad is 1 wide over 1
     || (eqb (d .kind) BAD && eqb (d .width) 1 && eqb va 1)
+    -- ext takes a word and is 64 wide
     || (eqb (d .kind) EXT && eqb (d .width) 64 && leb 1 va)
+    -- eq and ult are 1 wide over two words of one width
     || (compares (d .kind) && eqb (d .width) 1 && leb 1 va && eqb vb va)
+    -- ite has a condition 1 wide and one sort, word or memory, for the rest
     || (eqb (d .kind) ITE && eqb va 1 && eqb vb (d .width) && eqb vc (d .width))
+    -- addresses, values and reads are W wide
     || (eqb (d .kind) READ && eqb (d .width) w && eqb va 0 && eqb vb w) || (eqb (d .kind) WRITE && eqb (d .width) 0 && eqb va 0 && eqb vb w && eqb vc w))
 
 unfoldable pub sortsGood : List ℕ → ℕ → Node → Bool

@@ -96,3 +96,10 @@ pub fn divides(k: u64) -> bool
 {
     (k == DIVU) | (k == REM)
 }
+
+// read and write have an address.
+pub fn accesses(k: u64) -> bool
+    ensures { λ r. ⌜ r ≡ kinds.accesses k ⌝ }
+{
+    (k == READ) | (k == WRITE)
+}

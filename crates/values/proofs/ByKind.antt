@@ -1,76 +1,83 @@
 -- A slot's value, kind by kind.
 use mathlib.Core.Path.{_≡_}
 use mathlib.Core.List.{List}
+use mathlib.Core.Bool.{true}
 use Prim.Native.Nat.{ℕ, _+_}
 use lib.Bits.{bitAnd}
 use lib.Dec.{eqb, ltb}
 use lib.ListN.{getD}
 use Rattle.loops.specs.Loop.{pick, bit}
+use Rattle.loops.proofs.Loop.{pick-true}
 use Rattle.table.specs.declared.Node.{Node}
-use Rattle.table.specs.Kind.{CONST, STATE, NOT, BAD, AND, EXT, EQ, ADD, ITE, SUB, ULT, MUL, DIVU, REM, READ, WRITE}
-use Rattle.values.specs.Value.{notWord, addWord, subWord, mulWord, divWord, remWord, wordValue, readValue, writeValue, iteValue, slotValue}
+use Rattle.table.specs.Kind.{CONST, STATE, NOT, BAD, AND, EXT, EQ, ADD, ITE, SUB, ULT, MUL, DIVU, REM, READ, WRITE, accesses}
+use Rattle.values.specs.Value.{listed, notWord, addWord, subWord, mulWord, divWord, remWord, wordValue, readValue, writeValue, iteValue, placeAt, slotAt}
 
-module _ (l : List ℕ) (d : Node) (x : List ℕ) (a b c j : ℕ) where
-  pub at-const : d .kind ≡ CONST → slotValue l d x a b c j ≡ d .imm
-  unfolding slotValue wordValue pick
+module _ (l : List ℕ) (d : Node) (x : List ℕ) (a b c p j : ℕ) where
+  pub at-const : d .kind ≡ CONST → slotAt l d x a b c p j ≡ d .imm
+  unfolding slotAt wordValue pick
   at-const e = rw e
 
-  pub at-state : d .kind ≡ STATE → slotValue l d x a b c j ≡ getD x (a + j) 0
-  unfolding slotValue pick
+  pub at-state : d .kind ≡ STATE → slotAt l d x a b c p j ≡ getD x (a + j) 0
+  unfolding slotAt pick
   at-state e = rw e
 
-  pub at-not : d .kind ≡ NOT → slotValue l d x a b c j ≡ notWord (d .width) (getD x a 0)
-  unfolding slotValue wordValue pick
+  pub at-not : d .kind ≡ NOT → slotAt l d x a b c p j ≡ notWord (d .width) (getD x a 0)
+  unfolding slotAt wordValue pick
   at-not e = rw e
 
-  pub at-bad : d .kind ≡ BAD → slotValue l d x a b c j ≡ getD x a 0
-  unfolding slotValue wordValue pick
+  pub at-bad : d .kind ≡ BAD → slotAt l d x a b c p j ≡ getD x a 0
+  unfolding slotAt wordValue pick
   at-bad e = rw e
 
-  pub at-and : d .kind ≡ AND → slotValue l d x a b c j ≡ bitAnd (getD x a 0) (getD x b 0)
-  unfolding slotValue wordValue pick
+  pub at-and : d .kind ≡ AND → slotAt l d x a b c p j ≡ bitAnd (getD x a 0) (getD x b 0)
+  unfolding slotAt wordValue pick
   at-and e = rw e
 
-  pub at-ext : d .kind ≡ EXT → slotValue l d x a b c j ≡ getD x a 0
-  unfolding slotValue wordValue pick
+  pub at-ext : d .kind ≡ EXT → slotAt l d x a b c p j ≡ getD x a 0
+  unfolding slotAt wordValue pick
   at-ext e = rw e
 
-  pub at-eq : d .kind ≡ EQ → slotValue l d x a b c j ≡ bit (eqb (getD x a 0) (getD x b 0))
-  unfolding slotValue wordValue pick
+  pub at-eq : d .kind ≡ EQ → slotAt l d x a b c p j ≡ bit (eqb (getD x a 0) (getD x b 0))
+  unfolding slotAt wordValue pick
   at-eq e = rw e
 
-  pub at-add : d .kind ≡ ADD → slotValue l d x a b c j ≡ addWord (d .width) (getD x a 0) (getD x b 0)
-  unfolding slotValue wordValue pick
+  pub at-add : d .kind ≡ ADD → slotAt l d x a b c p j ≡ addWord (d .width) (getD x a 0) (getD x b 0)
+  unfolding slotAt wordValue pick
   at-add e = rw e
 
-  pub at-ite : d .kind ≡ ITE → slotValue l d x a b c j ≡ iteValue x a b c j
-  unfolding slotValue pick
+  pub at-ite : d .kind ≡ ITE → slotAt l d x a b c p j ≡ iteValue x a b c j
+  unfolding slotAt pick
   at-ite e = rw e
 
-  pub at-sub : d .kind ≡ SUB → slotValue l d x a b c j ≡ subWord (d .width) (getD x a 0) (getD x b 0)
-  unfolding slotValue wordValue pick
+  pub at-sub : d .kind ≡ SUB → slotAt l d x a b c p j ≡ subWord (d .width) (getD x a 0) (getD x b 0)
+  unfolding slotAt wordValue pick
   at-sub e = rw e
 
-  pub at-ult : d .kind ≡ ULT → slotValue l d x a b c j ≡ bit (ltb (getD x a 0) (getD x b 0))
-  unfolding slotValue wordValue pick
+  pub at-ult : d .kind ≡ ULT → slotAt l d x a b c p j ≡ bit (ltb (getD x a 0) (getD x b 0))
+  unfolding slotAt wordValue pick
   at-ult e = rw e
 
-  pub at-mul : d .kind ≡ MUL → slotValue l d x a b c j ≡ mulWord (d .width) (getD x a 0) (getD x b 0)
-  unfolding slotValue wordValue pick
+  pub at-mul : d .kind ≡ MUL → slotAt l d x a b c p j ≡ mulWord (d .width) (getD x a 0) (getD x b 0)
+  unfolding slotAt wordValue pick
   at-mul e = rw e
 
-  pub at-divu : d .kind ≡ DIVU → slotValue l d x a b c j ≡ divWord (d .width) (getD x a 0) (getD x b 0)
-  unfolding slotValue wordValue pick
+  pub at-divu : d .kind ≡ DIVU → slotAt l d x a b c p j ≡ divWord (d .width) (getD x a 0) (getD x b 0)
+  unfolding slotAt wordValue pick
   at-divu e = rw e
 
-  pub at-rem : d .kind ≡ REM → slotValue l d x a b c j ≡ remWord (getD x a 0) (getD x b 0)
-  unfolding slotValue wordValue pick
+  pub at-rem : d .kind ≡ REM → slotAt l d x a b c p j ≡ remWord (getD x a 0) (getD x b 0)
+  unfolding slotAt wordValue pick
   at-rem e = rw e
 
-  pub at-read : d .kind ≡ READ → slotValue l d x a b c j ≡ readValue l x a (getD x b 0)
-  unfolding slotValue pick
+  pub at-read : d .kind ≡ READ → slotAt l d x a b c p j ≡ readValue l x a p
+  unfolding slotAt pick
   at-read e = rw e
 
-  pub at-write : d .kind ≡ WRITE → slotValue l d x a b c j ≡ writeValue l x a (getD x b 0) (getD x c 0) j
-  unfolding slotValue pick
+  pub at-write : d .kind ≡ WRITE → slotAt l d x a b c p j ≡ writeValue x a p (getD x c 0) j
+  unfolding slotAt pick
   at-write e = rw e
+
+-- the place of a read's or write's address
+pub place-access : (l : List ℕ) (d : Node) (x : List ℕ) (b : ℕ) → accesses (d .kind) ≡ true → placeAt l d x b ≡ listed l (getD x b 0)
+unfolding placeAt
+place-access l d x b e = pick-true _ _ _ e

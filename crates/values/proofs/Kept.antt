@@ -20,9 +20,9 @@ use Rattle.table.proofs.size.Laws.{apart, begins, size-room}
 use Rattle.table.proofs.Whole.{is-clear}
 use Rattle.values.specs.declared.Answer.{Answer}
 use Rattle.values.specs.declared.Answer.the-variants.{Done, Table, ValueRoom, Input}
-use Rattle.values.specs.Value.{slotValue}
+use Rattle.values.specs.Value.{placeAt, slotAt}
 use Rattle.values.specs.Eval.{slots, offset, total, nodeGiven, inputBad, slotStep, nodeStep, Run, run, evalClear, evalWords}
-use Rattle.values.specs.Frame.{Kept, Made}
+use Rattle.values.specs.Frame.{Kept}
 
 -- y differs from x at most from o up to o + m
 record Within (o m : ℕ) (x y : List ℕ) : Type 0 where
@@ -30,11 +30,11 @@ record Within (o m : ℕ) (x y : List ℕ) : Type 0 where
   pub below : (k : ℕ) → k < o → getD y k 0 ≡ getD x k 0
   pub above : (k : ℕ) → o + m ≤ k → getD y k 0 ≡ getD x k 0
 
-module _ (l : List ℕ) (d : Node) (o a b c : ℕ) (x : List ℕ) where
-  filled : (m : ℕ) → Within o m x (iter m (slotStep l d o a b c) x)
+module _ (l : List ℕ) (d : Node) (o a b c p : ℕ) (x : List ℕ) where
+  filled : (m : ℕ) → Within o m x (iter m (slotStep l d o a b c p) x)
   unfolding slotStep
   filled m =
-      iter-inv (λ i y. Within o i x y) (slotStep l d o a b c) x m
+      iter-inv (λ i y. Within o i x y) (slotStep l d o a b c p) x m
       (record { long = refl; below = λ k h. refl; above = λ k h. refl })
       (λ i y h w.
       record {
@@ -45,34 +45,38 @@ module _ (l : List ℕ) (d : Node) (o a b c : ℕ) (x : List ℕ) where
 
   -- each of the m slots is made of what stood there when its turn came
   at-step : (m j : ℕ) → j < suc m → o + suc m ≤ length x
-      → (j < m → getD (iter m (slotStep l d o a b c) x) (o + j) 0 ≡ slotValue l d (iter j (slotStep l d o a b c) x) a b c j) → Dec (j < m)
-      → getD (iter (suc m) (slotStep l d o a b c) x) (o + j) 0 ≡ slotValue l d (iter j (slotStep l d o a b c) x) a b c j
+      → (j < m → getD (iter m (slotStep l d o a b c p) x) (o + j) 0 ≡ slotAt l d (iter j (slotStep l d o a b c p) x) a b c p j) → Dec (j < m)
+      → getD (iter (suc m) (slotStep l d o a b c p) x) (o + j) 0 ≡ slotAt l d (iter j (slotStep l d o a b c p) x) a b c p j
   unfolding iter slotStep
-  at-step m j h r ih (yes q) = getD-set-other (iter m (slotStep l d o a b c) x) (o + m) (o + j) _ 0 (omega arith) ∙ ih q
+  at-step m j h r ih (yes q) = getD-set-other (iter m (slotStep l d o a b c p) x) (o + m) (o + j) _ 0 (omega arith) ∙ ih q
   at-step m j h r ih (no q) =
       let e : j ≡ m = omega arith in
-      rw e (getD-set-same (iter m (slotStep l d o a b c) x) (o + m) _ 0 (omega (arith, filled m .long)))
+      rw e (getD-set-same (iter m (slotStep l d o a b c p) x) (o + m) _ 0 (omega (arith, filled m .long)))
 
-  fill-at : (m j : ℕ) → j < m → o + m ≤ length x → getD (iter m (slotStep l d o a b c) x) (o + j) 0 ≡ slotValue l d (iter j (slotStep l d o a b c) x) a b c j
+  fill-at : (m j : ℕ) → j < m → o + m ≤ length x → getD (iter m (slotStep l d o a b c p) x) (o + j) 0 ≡ slotAt l d (iter j (slotStep l d o a b c p) x) a b c p j
   fill-at zero j h r = absurd (omega arith)
   fill-at (suc m) j h r = at-step m j h r (λ q. fill-at m j q (omega arith)) (decLt j m)
 
 module _ (t l : List ℕ) where
-  step : ℕ → ℕ → List ℕ → List ℕ
-  step i = slotStep l (nodeAt t (i + 1)) (offset t l (i + 1)) (offset t l (aOf t (i + 1))) (offset t l (bOf t (i + 1))) (offset t l (cOf t (i + 1)))
+  place : ℕ → List ℕ → ℕ
+  place i x = placeAt l (nodeAt t (i + 1)) x (offset t l (bOf t (i + 1)))
+
+  -- node i + 1, whose address stands at place p
+  step : ℕ → ℕ → ℕ → List ℕ → List ℕ
+  step i p = slotStep l (nodeAt t (i + 1)) (offset t l (i + 1)) (offset t l (aOf t (i + 1))) (offset t l (bOf t (i + 1))) (offset t l (cOf t (i + 1))) p
 
   node-given : (i : ℕ) (x : List ℕ) → nodeGiven t i ≡ true → nodeStep t l i x ≡ x
   unfolding nodeStep
   node-given i x e = pick-true _ _ _ e
 
-  node-made : (i : ℕ) (x : List ℕ) → nodeGiven t i ≡ false → nodeStep t l i x ≡ iter (slots t l i) (step i) x
-  unfolding nodeStep step
+  node-made : (i : ℕ) (x : List ℕ) → nodeGiven t i ≡ false → nodeStep t l i x ≡ iter (slots t l i) (step i (place i x)) x
+  unfolding nodeStep step place
   node-made i x e = pick-false _ _ _ e
 
   node-within : (i : ℕ) (x : List ℕ) (b : Bool) → nodeGiven t i ≡ b → Within (offset t l (i + 1)) (slots t l i) x (nodeStep t l i x)
   unfolding step
   node-within i x true e = rw (node-given i x e) (record { long = refl; below = λ k h. refl; above = λ k h. refl })
-  node-within i x false e = rw (node-made i x e) (filled l (nodeAt t (i + 1)) (offset t l (i + 1)) (offset t l (aOf t (i + 1))) (offset t l (bOf t (i + 1))) (offset t l (cOf t (i + 1))) x (slots t l i))
+  node-within i x false e = rw (node-made i x e) (filled l (nodeAt t (i + 1)) (offset t l (i + 1)) (offset t l (aOf t (i + 1))) (offset t l (bOf t (i + 1))) (offset t l (cOf t (i + 1))) (place i x) x (slots t l i))
 
   module _ (v : List ℕ) where
     other : (i j k : ℕ) (x : List ℕ) → j < slots t l i → nodeGiven t i ≡ true → Dec (i < k) → Dec (k < i)
@@ -107,25 +111,34 @@ module _ (t l : List ℕ) where
     long-at : (i : ℕ) → length (iter i (nodeStep t l) v) ≡ length v
     long-at i = iter-inv (λ k x. length x ≡ length v) (nodeStep t l) v i refl (λ k x h e. node-within k x (nodeGiven t k) refl .long ∙ e)
 
-    one-more : (i : ℕ) → nodeGiven t i ≡ false → iter (suc i) (nodeStep t l) v ≡ iter (slots t l i) (step i) (iter i (nodeStep t l) v)
+    one-more : (i : ℕ) → nodeGiven t i ≡ false → iter (suc i) (nodeStep t l) v ≡ iter (slots t l i) (step i (place i (iter i (nodeStep t l) v))) (iter i (nodeStep t l) v)
     unfolding iter
     one-more i g = node-made i (iter i (nodeStep t l) v) g
 
-    -- slot j of node i + 1 is made of a list that agrees with the final values in the slots of all lower nodes
+    -- a list that agrees with the final values in the slots of all lower nodes
+    abbrev Agrees : ℕ → List ℕ → Type 0
+    Agrees i y = (k : ℕ) → k < offset t l (i + 1) → getD y k 0 ≡ getD (iter (nodes t) (nodeStep t l) v) k 0
+
+    -- slot j of node i + 1 is made of such a list y, with the address of another, z
     pub record Worked (i j : ℕ) : Type 0 where
       pub y : List ℕ
-      pub agrees : (k : ℕ) → k < offset t l (i + 1) → getD y k 0 ≡ getD (iter (nodes t) (nodeStep t l) v) k 0
-      pub made : Made t l (iter (nodes t) (nodeStep t l) v) y i j
+      pub z : List ℕ
+      pub agrees : Agrees i y
+      pub agreed : Agrees i z
+      pub made : getD (iter (nodes t) (nodeStep t l) v) (offset t l (i + 1) + j) 0
+          ≡ slotAt l (nodeAt t (i + 1)) y (offset t l (aOf t (i + 1))) (offset t l (bOf t (i + 1))) (offset t l (cOf t (i + 1))) (placeAt l (nodeAt t (i + 1)) z (offset t l (bOf t (i + 1)))) j
 
     pub worked : (i j : ℕ) → i < nodes t → j < slots t l i → nodeGiven t i ≡ false → total t l ≤ length v → Worked i j
-    unfolding step
+    unfolding step place
     worked i j h q g r =
         record {
-          y = iter j (step i) y0;
-          agrees = λ k p. filled l (nodeAt t (i + 1)) o _ _ _ y0 j .below k p ∙ sym (later i (nodes t) k (omega arith) p);
+          y = iter j (step i (place i y0)) y0;
+          z = y0;
+          agrees = λ k p. filled l (nodeAt t (i + 1)) o _ _ _ (place i y0) y0 j .below k p ∙ sym (later i (nodes t) k (omega arith) p);
+          agreed = λ k p. sym (later i (nodes t) k (omega arith) p);
           made =
               later (suc i) (nodes t) (o + j) h (omega (arith, next))
-              ∙ (ap (λ x. getD x (o + j) 0) (one-more i g) ∙ fill-at l (nodeAt t (i + 1)) o _ _ _ y0 (slots t l i) j q (omega (arith, size-room Slot t (length l) 0 i h, long-at i)));
+              ∙ (ap (λ x. getD x (o + j) 0) (one-more i g) ∙ fill-at l (nodeAt t (i + 1)) o _ _ _ (place i y0) y0 (slots t l i) j q (omega (arith, size-room Slot t (length l) 0 i h, long-at i)));
         }
       where
         y0 : List ℕ

@@ -21,7 +21,7 @@ use Rattle.table.specs.Node.{nodes, nodeAt, widthOf, aOf, bOf, cOf, Narrow}
 use Rattle.table.specs.Sheet.{tableFault}
 use Rattle.table.proofs.Whole.{Sound, Rule, is-const, is-input, is-state, is-not, is-bad, is-and, is-ext, is-eq, is-add, is-ite, is-sub, is-ult, is-mul, is-divu, is-rem, is-read, is-write, within, fine, each-sound}
 use Rattle.values.specs.declared.Answer.the-variants.{Done}
-use Rattle.values.specs.Value.{listed, notWord, addWord, subWord, mulWord, divWord, remWord, readValue, writeValue, iteValue, slotValue}
+use Rattle.values.specs.Value.{notWord, addWord, subWord, mulWord, divWord, remWord, readValue, writeValue, iteValue, placeAt, slotAt}
 use Rattle.values.specs.Eval.{slots, offset, nodeGiven, slotWidth, slotBad, inputBad, evalWords}
 use Rattle.values.specs.Frame.{InRange, Made}
 use Rattle.values.proofs.ByKind.{at-const, at-state, at-not, at-bad, at-and, at-ext, at-eq, at-add, at-ite, at-sub, at-ult, at-mul, at-divu, at-rem, at-read, at-write}
@@ -72,6 +72,9 @@ module _ (t l : List ℕ) (w i : ℕ) (x : List ℕ) (j : ℕ) (pos : 1 ≤ w) (
   abbrev oc : ℕ
   oc = offset t l (cOf t (i + 1))
 
+  abbrev px : ℕ
+  px = placeAt l d x ob
+
   abbrev Below : ℕ → ℕ → Type 0
   Below k u = getD x k 0 < 2 ^ u
 
@@ -89,22 +92,20 @@ module _ (t l : List ℕ) (w i : ℕ) (x : List ℕ) (j : ℕ) (pos : 1 ≤ w) (
   left u h z = rw z at (word (aOf t (i + 1)) (s .operands .a-used u) (s .operands .a) (omega arith))
 
   Good : Type 0
-  Good = slotValue l d x oa ob oc j < 2 ^ slotWidth w d
+  Good = slotAt l d x oa ob oc px j < 2 ^ slotWidth w d
 
   -- a word by its value
-  as-word : (v : ℕ) → slotValue l d x oa ob oc j ≡ v → 1 ≤ d .width → v < 2 ^ d .width → Good
+  as-word : (v : ℕ) → slotAt l d x oa ob oc px j ≡ v → 1 ≤ d .width → v < 2 ^ d .width → Good
   unfolding Good
   as-word v e h k = rw (e, width-word w d h) k
 
-  read-range : (z : ℕ) → ((m : ℕ) → m < length l → getD x (oa + m) 0 < 2 ^ w) → readValue l x oa z < 2 ^ w
+  read-range : (p : ℕ) → ((m : ℕ) → m < length l → getD x (oa + m) 0 < 2 ^ w) → readValue l x oa p < 2 ^ w
   unfolding readValue
-  read-range z h =
-      by-pick (λ v. v < 2 ^ w) (ltb (listed l z) (length l)) (getD x (oa + listed l z) 0) 0
-      (λ e. h (listed l z) (ltb-true (listed l z) (length l) e)) (λ e. pow-pos w)
+  read-range p h = by-pick (λ v. v < 2 ^ w) (ltb p (length l)) (getD x (oa + p) 0) 0 (λ e. h p (ltb-true p (length l) e)) (λ e. pow-pos w)
 
-  write-range : (z u : ℕ) → u < 2 ^ w → getD x (oa + j) 0 < 2 ^ w → writeValue l x oa z u j < 2 ^ w
+  write-range : (p u : ℕ) → u < 2 ^ w → getD x (oa + j) 0 < 2 ^ w → writeValue x oa p u j < 2 ^ w
   unfolding writeValue
-  write-range z u h k = by-pick (λ v. v < 2 ^ w) (eqb j (listed l z)) u (getD x (oa + j) 0) (λ e. h) (λ e. k)
+  write-range p u h k = by-pick (λ v. v < 2 ^ w) (eqb j p) u (getD x (oa + j) 0) (λ e. h) (λ e. k)
 
   ite-range : (u : ℕ) → getD x (ob + j) 0 < u → getD x (oc + j) 0 < u → iteValue x oa ob oc j < u
   unfolding iteValue
@@ -112,40 +113,40 @@ module _ (t l : List ℕ) (w i : ℕ) (x : List ℕ) (j : ℕ) (pos : 1 ≤ w) (
 
   by-rule : Rule w d (widthOf t (aOf t (i + 1))) (widthOf t (bOf t (i + 1))) (widthOf t (cOf t (i + 1))) → Good
   unfolding Good
-  by-rule (is-const e h m) = as-word (d .imm) (at-const l d x oa ob oc j e) h m
+  by-rule (is-const e h m) = as-word (d .imm) (at-const l d x oa ob oc px j e) h m
   by-rule (is-input e) = absurd (no-input d e free)
   by-rule (is-state e (inl z)) = absurd (omega (arith, initial d e free))
-  by-rule (is-state e (inr z)) = rw (at-state l d x oa ob oc j e) (same (aOf t (i + 1)) (initial d e free) (s .operands .a) z)
-  by-rule (is-not e h z) = as-word _ (at-not l d x oa ob oc j e) h (not-range (d .width) (getD x oa 0))
-  by-rule (is-bad e h z) = as-word _ (at-bad l d x oa ob oc j e) (omega arith) (left (ap usesA e) (omega arith) (z ∙ sym h))
+  by-rule (is-state e (inr z)) = rw (at-state l d x oa ob oc px j e) (same (aOf t (i + 1)) (initial d e free) (s .operands .a) z)
+  by-rule (is-not e h z) = as-word _ (at-not l d x oa ob oc px j e) h (not-range (d .width) (getD x oa 0))
+  by-rule (is-bad e h z) = as-word _ (at-bad l d x oa ob oc px j e) (omega arith) (left (ap usesA e) (omega arith) (z ∙ sym h))
   by-rule (is-ext e h z) =
-      as-word _ (at-ext l d x oa ob oc j e) (omega arith)
+      as-word _ (at-ext l d x oa ob oc px j e) (omega arith)
       (lt-of-lt-of-le (word (aOf t (i + 1)) (s .operands .a-used (ap usesA e)) (s .operands .a) z) (pow-mono (omega (arith, narrow (aOf t (i + 1))))))
   by-rule (is-and e z) =
-      as-word _ (at-and l d x oa ob oc j e) (z .word)
+      as-word _ (at-and l d x oa ob oc px j e) (z .word)
       (lt-of-le-of-lt (and-le-l (getD x oa 0) (getD x ob 0)) (left (ap usesA e) (z .word) (z .left)))
-  by-rule (is-add e z) = as-word _ (at-add l d x oa ob oc j e) (z .word) (add-range (d .width) (getD x oa 0) (getD x ob 0))
-  by-rule (is-sub e z) = as-word _ (at-sub l d x oa ob oc j e) (z .word) (sub-range (d .width) (getD x oa 0) (getD x ob 0))
-  by-rule (is-mul e z) = as-word _ (at-mul l d x oa ob oc j e) (z .word) (mul-range (d .width) (getD x oa 0) (getD x ob 0))
-  by-rule (is-divu e z) = as-word _ (at-divu l d x oa ob oc j e) (z .word) (div-range (d .width) (getD x oa 0) (getD x ob 0) (left (ap usesA e) (z .word) (z .left)))
-  by-rule (is-rem e z) = as-word _ (at-rem l d x oa ob oc j e) (z .word) (rem-range (d .width) (getD x oa 0) (getD x ob 0) (left (ap usesA e) (z .word) (z .left)))
-  by-rule (is-eq e z) = as-word _ (at-eq l d x oa ob oc j e) (omega arith) (bit-range (d .width) (eqb (getD x oa 0) (getD x ob 0)) (omega arith))
-  by-rule (is-ult e z) = as-word _ (at-ult l d x oa ob oc j e) (omega arith) (bit-range (d .width) (ltb (getD x oa 0) (getD x ob 0)) (omega arith))
+  by-rule (is-add e z) = as-word _ (at-add l d x oa ob oc px j e) (z .word) (add-range (d .width) (getD x oa 0) (getD x ob 0))
+  by-rule (is-sub e z) = as-word _ (at-sub l d x oa ob oc px j e) (z .word) (sub-range (d .width) (getD x oa 0) (getD x ob 0))
+  by-rule (is-mul e z) = as-word _ (at-mul l d x oa ob oc px j e) (z .word) (mul-range (d .width) (getD x oa 0) (getD x ob 0))
+  by-rule (is-divu e z) = as-word _ (at-divu l d x oa ob oc px j e) (z .word) (div-range (d .width) (getD x oa 0) (getD x ob 0) (left (ap usesA e) (z .word) (z .left)))
+  by-rule (is-rem e z) = as-word _ (at-rem l d x oa ob oc px j e) (z .word) (rem-range (d .width) (getD x oa 0) (getD x ob 0) (left (ap usesA e) (z .word) (z .left)))
+  by-rule (is-eq e z) = as-word _ (at-eq l d x oa ob oc px j e) (omega arith) (bit-range (d .width) (eqb (getD x oa 0) (getD x ob 0)) (omega arith))
+  by-rule (is-ult e z) = as-word _ (at-ult l d x oa ob oc px j e) (omega arith) (bit-range (d .width) (ltb (getD x oa 0) (getD x ob 0)) (omega arith))
   by-rule (is-ite e p q r) =
-      rw (at-ite l d x oa ob oc j e)
+      rw (at-ite l d x oa ob oc px j e)
       (ite-range (2 ^ slotWidth w d)
       (same (bOf t (i + 1)) (s .operands .b-used (ap usesB e)) (s .operands .b) q)
       (same (cOf t (i + 1)) (s .operands .c-used (ap usesC e)) (s .operands .c) r))
   by-rule (is-read e h p q) =
-      as-word _ (at-read l d x oa ob oc j e) (omega arith)
-      (rw h (read-range (getD x ob 0) (λ m. memory (aOf t (i + 1)) m (s .operands .a-used (ap usesA e)) (s .operands .a) p)))
+      as-word _ (at-read l d x oa ob oc px j e) (omega arith)
+      (lt-of-lt-of-le (read-range px (λ m. memory (aOf t (i + 1)) m (s .operands .a-used (ap usesA e)) (s .operands .a) p)) (pow-mono (omega arith)))
   by-rule (is-write e h p q r) =
-      rw (at-write l d x oa ob oc j e, width-memory w d h)
-      (write-range (getD x ob 0) (getD x oc 0)
+      rw (at-write l d x oa ob oc px j e, width-memory w d h)
+      (write-range px (getD x oc 0)
       (rw r at (word (cOf t (i + 1)) (s .operands .c-used (ap usesC e)) (s .operands .c) (omega arith)))
       (memory (aOf t (i + 1)) j (s .operands .a-used (ap usesA e)) (s .operands .a) p (omega (arith, memory-own t l i h))))
 
-  slot-range : slotValue l d x oa ob oc j < 2 ^ slotWidth w d
+  slot-range : slotAt l d x oa ob oc px j < 2 ^ slotWidth w d
   unfolding Good
   slot-range = by-rule (s .sort)
 

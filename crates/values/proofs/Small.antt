@@ -10,7 +10,7 @@ use Rattle.table.specs.Node.{fieldAt}
 use Rattle.table.specs.Sheet.{sizeGood, isAt, addressBad, addressesBad, operandsGood, sortGood, sortsGood, faultOf, nodeFault, nodeBad, nodesFault, tableFault}
 use Rattle.table.specs.Size.{nodeSize, offsetOf, sizeSum}
 use Rattle.table.specs.Ceiling.{divGates, divConstraints, memoryGates, iteGates, plainGates, ceiling, constraintCeiling, nodeGates, nodeConstraints}
-use Rattle.values.specs.Value.{notWord, addWord, subWord, mulWord, divWord, remWord, wordValue, readValue, writeValue, iteValue, slotValue}
+use Rattle.values.specs.Value.{notWord, addWord, subWord, mulWord, divWord, remWord, wordValue, readValue, writeValue, iteValue, placeAt, slotAt}
 use Rattle.values.specs.Eval.{offset, slotWidth, slotBad, inputBad, slotStep, nodeStep, Run, number, evalClear, evalWords}
 
 -- W = 2, addresses 0 and 2
@@ -98,5 +98,5 @@ all-right r [] = true
 all-right r (q ∷ l) = eqb (asked r (q .ask)) (q .answer) && all-right r l
 
 pub small : all-right (evalWords table addresses 2 before) rows ≡ true
-unfolding all-right asked pick first iter sum fieldAt sizeGood isAt addressBad addressesBad operandsGood sortGood sortsGood faultOf nodeFault nodeBad nodesFault tableFault nodeSize offsetOf sizeSum divGates divConstraints memoryGates iteGates plainGates ceiling constraintCeiling nodeGates nodeConstraints notWord addWord subWord mulWord divWord remWord wordValue readValue writeValue iteValue slotValue slotWidth slotBad inputBad slotStep nodeStep evalClear evalWords
+unfolding all-right asked pick first iter sum fieldAt sizeGood isAt addressBad addressesBad operandsGood sortGood sortsGood faultOf nodeFault nodeBad nodesFault tableFault nodeSize offsetOf sizeSum divGates divConstraints memoryGates iteGates plainGates ceiling constraintCeiling nodeGates nodeConstraints notWord addWord subWord mulWord divWord remWord wordValue readValue writeValue iteValue placeAt slotAt slotWidth slotBad inputBad slotStep nodeStep evalClear evalWords
 small = refl

@@ -13,7 +13,7 @@ use Rattle.table.specs.Sheet.{tableFault, isClear}
 use Rattle.table.specs.Size.{nodeSize, offsetOf, sizeSum, Offsets}
 use Rattle.values.specs.declared.Answer.{Answer}
 use Rattle.values.specs.declared.Answer.the-variants.{Done, Table, ValueRoom, Input}
-use Rattle.values.specs.Value.{slotValue}
+use Rattle.values.specs.Value.{placeAt, slotAt}
 
 -- the sheet's number of an answer, and the node beside it; 0 is no refusal
 abbrev pub number : Answer → ℕ
@@ -57,16 +57,17 @@ slotBad u vals o j = not (ltb (getD vals (o + j) 0) (2 ^ u))
 unfoldable pub inputBad : List ℕ → List ℕ → ℕ → List ℕ → ℕ → Bool
 inputBad t l w vals i = nodeGiven t i && ltb (first (slots t l i) (slotBad (slotWidth w (nodeAt t (i + 1))) vals (offset t l (i + 1)))) (slots t l i)
 
--- a node d is worked out slot by slot, from o on; its operands' slots begin at a, b and c
-unfoldable pub slotStep : List ℕ → Node → ℕ → ℕ → ℕ → ℕ → ℕ → List ℕ → List ℕ
-slotStep l d o a b c j vals = set vals (o + j) (slotValue l d vals a b c j)
+-- a node d is worked out slot by slot, from o on; its operands' slots begin at a, b and c, and its address stands at place p
+unfoldable pub slotStep : List ℕ → Node → ℕ → ℕ → ℕ → ℕ → ℕ → ℕ → List ℕ → List ℕ
+slotStep l d o a b c p j vals = set vals (o + j) (slotAt l d vals a b c p j)
 
 -- node i + 1
 unfoldable pub nodeStep : List ℕ → List ℕ → ℕ → List ℕ → List ℕ
 nodeStep t l i vals =
     pick (nodeGiven t i) vals
     (iter (slots t l i)
-    (slotStep l (nodeAt t (i + 1)) (offset t l (i + 1)) (offset t l (aOf t (i + 1))) (offset t l (bOf t (i + 1))) (offset t l (cOf t (i + 1))))
+    (slotStep l (nodeAt t (i + 1)) (offset t l (i + 1)) (offset t l (aOf t (i + 1))) (offset t l (bOf t (i + 1))) (offset t l (cOf t (i + 1)))
+    (placeAt l (nodeAt t (i + 1)) vals (offset t l (bOf t (i + 1)))))
     vals)
 
 -- an answer, and the values with it

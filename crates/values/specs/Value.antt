@@ -6,7 +6,7 @@ use lib.Dec.{eqb, ltb}
 use lib.ListN.{getD, length}
 use Rattle.loops.specs.Loop.{pick, first, bit}
 use Rattle.table.specs.declared.Node.{Node}
-use Rattle.table.specs.Kind.{CONST, STATE, NOT, AND, EQ, ADD, ITE, SUB, ULT, MUL, DIVU, REM, READ, WRITE}
+use Rattle.table.specs.Kind.{CONST, STATE, NOT, AND, EQ, ADD, ITE, SUB, ULT, MUL, DIVU, REM, READ, WRITE, accesses}
 use Rattle.table.specs.Sheet.{isAt}
 
 -- modulo 2^v
@@ -48,23 +48,30 @@ wordValue d x y =
 abbrev pub listed : List ℕ → ℕ → ℕ
 listed l x = first (length l) (isAt l x)
 
--- a read at address x of the memory at o: 0 where x is not listed
+-- a read of the memory at o, where the address stands at place p of the list: 0 where it is not listed
 unfoldable pub readValue : List ℕ → List ℕ → ℕ → ℕ → ℕ
-readValue l vals o x = pick (ltb (listed l x) (length l)) (getD vals (o + listed l x) 0) 0
+readValue l vals o p = pick (ltb p (length l)) (getD vals (o + p) 0) 0
 
--- word j of the memory at o after a write of y at address x: nothing changes where x is not listed
-unfoldable pub writeValue : List ℕ → List ℕ → ℕ → ℕ → ℕ → ℕ → ℕ
-writeValue l vals o x y j = pick (eqb j (listed l x)) y (getD vals (o + j) 0)
+-- word j of the memory at o after a write of y, where the address stands at place p: nothing changes where it is not listed
+unfoldable pub writeValue : List ℕ → ℕ → ℕ → ℕ → ℕ → ℕ
+writeValue vals o p y j = pick (eqb j p) y (getD vals (o + j) 0)
 
 -- slot j of a choice
 unfoldable pub iteValue : List ℕ → ℕ → ℕ → ℕ → ℕ → ℕ
 iteValue vals a b c j = pick (eqb (getD vals a 0) 1) (getD vals (b + j) 0) (getD vals (c + j) 0)
 
--- slot j of a node, over operands whose slots begin at a, b and c: a word has slot 0 alone, a memory one for each listed address
-unfoldable pub slotValue : List ℕ → Node → List ℕ → ℕ → ℕ → ℕ → ℕ → ℕ
-slotValue l d vals a b c j =
+-- the place of the address that a read or write has in slot b
+unfoldable pub placeAt : List ℕ → Node → List ℕ → ℕ → ℕ
+placeAt l d vals b = pick (accesses (d .kind)) (listed l (getD vals b 0)) 0
+
+-- slot j of a node, over operands whose slots begin at a, b and c, with its address at place p: a word has slot 0 alone, a memory one for each listed address
+unfoldable pub slotAt : List ℕ → Node → List ℕ → ℕ → ℕ → ℕ → ℕ → ℕ → ℕ
+slotAt l d vals a b c p j =
     pick (eqb (d .kind) STATE) (getD vals (a + j) 0)
     (pick (eqb (d .kind) ITE) (iteValue vals a b c j)
-    (pick (eqb (d .kind) READ) (readValue l vals a (getD vals b 0))
-    (pick (eqb (d .kind) WRITE) (writeValue l vals a (getD vals b 0) (getD vals c 0) j)
+    (pick (eqb (d .kind) READ) (readValue l vals a p)
+    (pick (eqb (d .kind) WRITE) (writeValue vals a p (getD vals c 0) j)
     (wordValue d (getD vals a 0) (getD vals b 0)))))
+
+abbrev pub slotValue : List ℕ → Node → List ℕ → ℕ → ℕ → ℕ → ℕ → ℕ
+slotValue l d vals a b c j = slotAt l d vals a b c (placeAt l d vals b) j

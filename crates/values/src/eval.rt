@@ -7,7 +7,8 @@ ghost use Rattle.values.specs.Eval as eval;
 ghost use Rattle.values.specs.Eval.{Ready, total, slotStep, nodeStep, run, evalClear, evalWords};
 use crate::Answer;
 use crate::input::first_bad_input;
-use crate::slot::slot_value;
+use crate::slot::place_at;
+use crate::slot::slot_at;
 use crate::slot::slots_of;
 use table::Node;
 use table::Unit;
@@ -46,14 +47,15 @@ fn slot_step(
     a: usize,
     b: usize,
     c: usize,
+    p: usize,
     j: usize,
     values: &mut [u64],
 )
     requires { ⌜ (length (now addrs) ≤ 64) × (node .width ≤ 64) × (a ≤ 65536) × (b ≤ 65536) × (c ≤ 65536) × (j ≤ 64) ⌝ }
     requires { ⌜ (o ≤ 65536) × (o + j < length (now values)) ⌝ }
-    ensures { λ _. ⌜ now (values .exit) ≡ slotStep (now (addrs .entry)) node o a b c j (now (values .entry)) ⌝ }
+    ensures { λ _. ⌜ now (values .exit) ≡ slotStep (now (addrs .entry)) node o a b c p j (now (values .entry)) ⌝ }
 {
-    let x = slot_value(addrs, node, values, a, b, c, j);
+    let x = slot_at(addrs, node, values, a, b, c, p, j);
     values[o + j] = x;
 }
 
@@ -65,16 +67,17 @@ fn fill(
     a: usize,
     b: usize,
     c: usize,
+    p: usize,
     m: usize,
     values: &mut [u64],
 )
     requires { ⌜ (length (now addrs) ≤ 64) × (node .width ≤ 64) × (a ≤ 65536) × (b ≤ 65536) × (c ≤ 65536) × (m ≤ 64) ⌝ }
     requires { ⌜ (o ≤ 65536) × (o + m ≤ length (now values)) ⌝ }
-    ensures { λ _. ⌜ now (values .exit) ≡ iter m (slotStep (now (addrs .entry)) node o a b c) (now (values .entry)) ⌝ }
+    ensures { λ _. ⌜ now (values .exit) ≡ iter m (slotStep (now (addrs .entry)) node o a b c p) (now (values .entry)) ⌝ }
 {
     let mut j = 0;
     while j < m {
-        slot_step(addrs, node, o, a, b, c, j, values);
+        slot_step(addrs, node, o, a, b, c, p, j, values);
         j += 1;
     }
 }
@@ -97,7 +100,8 @@ fn eval_node(table: &[u64], addrs: &[u64], offsets: &[usize], i: usize, values: 
     let b = offsets[nb];
     let c = offsets[nc];
     let m = slots_of(addrs, node);
-    fill(addrs, node, o, a, b, c, m, values);
+    let p = place_at(addrs, node, values, b);
+    fill(addrs, node, o, a, b, c, p, m, values);
 }
 
 // All nodes upwards.

@@ -2,7 +2,7 @@ ghost use mathlib.Core.Path.{_≡_};
 ghost use Prim.Native.Nat.{_≤_};
 ghost use lib.ListN.{length, getD};
 ghost use Rattle.table.specs.Size.{sizeOf};
-ghost use Rattle.values.specs.Value.{readValue, writeValue, iteValue, slotValue};
+ghost use Rattle.values.specs.Value.{readValue, writeValue, iteValue, placeAt, slotAt};
 use crate::value::word_value;
 use table::Node;
 use table::Unit;
@@ -10,6 +10,7 @@ use table::kind::ITE;
 use table::kind::READ;
 use table::kind::STATE;
 use table::kind::WRITE;
+use table::kind::accesses;
 use table::sheet::find;
 use table::size::size_of;
 
@@ -32,27 +33,36 @@ pub fn slots_of(addrs: &[u64], node: Node) -> usize
     size_of(Unit::Slot, n, 0, node.width) as usize
 }
 
-// A read at address x of the memory at o: 0 where x is not listed.
-fn read_value(addrs: &[u64], values: &[u64], o: usize, x: u64) -> u64
+// A read of the memory at o, where the address stands at place p of the list: 0 where it is not listed.
+fn read_value(addrs: &[u64], values: &[u64], o: usize, p: usize) -> u64
     requires { ⌜ (length (now addrs) ≤ 64) × (o ≤ 65536) ⌝ }
-    ensures { λ r. ⌜ r ≡ readValue (now (addrs .entry)) (now (values .entry)) o x ⌝ }
+    ensures { λ r. ⌜ r ≡ readValue (now (addrs .entry)) (now (values .entry)) o p ⌝ }
 {
-    let j = find(addrs, addrs.len(), x);
-    if j < addrs.len() {
-        return at(values, o + j);
+    if p < addrs.len() {
+        return at(values, o + p);
     }
     0
 }
 
-// Word j of the memory at o after a write of y at address x: as it was where x is not listed.
-fn write_value(addrs: &[u64], values: &[u64], o: usize, x: u64, y: u64, j: usize) -> u64
+// Word j of the memory at o after a write of y at place p: as it was everywhere else.
+fn write_value(values: &[u64], o: usize, p: usize, y: u64, j: usize) -> u64
     requires { ⌜ (j ≤ 64) × (o ≤ 65536) ⌝ }
-    ensures { λ r. ⌜ r ≡ writeValue (now (addrs .entry)) (now (values .entry)) o x y j ⌝ }
+    ensures { λ r. ⌜ r ≡ writeValue (now (values .entry)) o p y j ⌝ }
 {
-    if j == find(addrs, addrs.len(), x) {
+    if j == p {
         return y;
     }
     at(values, o + j)
+}
+
+// The place of the address that a read or write has in slot b. It is looked for once a node, not once a slot.
+pub fn place_at(addrs: &[u64], node: Node, values: &[u64], b: usize) -> usize
+    ensures { λ r. ⌜ r ≡ placeAt (now (addrs .entry)) node (now (values .entry)) b ⌝ }
+{
+    if !accesses(node.kind) {
+        return 0;
+    }
+    find(addrs, addrs.len(), at(values, b))
 }
 
 fn ite_value(values: &[u64], a: usize, b: usize, c: usize, j: usize) -> u64
@@ -65,18 +75,19 @@ fn ite_value(values: &[u64], a: usize, b: usize, c: usize, j: usize) -> u64
     at(values, c + j)
 }
 
-// Slot j of a node, over operands whose slots begin at a, b and c.
-pub fn slot_value(
+// Slot j of a node, over operands whose slots begin at a, b and c, with its address at place p.
+pub fn slot_at(
     addrs: &[u64],
     node: Node,
     values: &[u64],
     a: usize,
     b: usize,
     c: usize,
+    p: usize,
     j: usize,
 ) -> u64
     requires { ⌜ (length (now addrs) ≤ 64) × (node .width ≤ 64) × (a ≤ 65536) × (b ≤ 65536) × (c ≤ 65536) × (j ≤ 64) ⌝ }
-    ensures { λ r. ⌜ r ≡ slotValue (now (addrs .entry)) node (now (values .entry)) a b c j ⌝ }
+    ensures { λ r. ⌜ r ≡ slotAt (now (addrs .entry)) node (now (values .entry)) a b c p j ⌝ }
 {
     let k = node.kind;
     if k == STATE {
@@ -86,10 +97,10 @@ pub fn slot_value(
         return ite_value(values, a, b, c, j);
     }
     if k == READ {
-        return read_value(addrs, values, a, at(values, b));
+        return read_value(addrs, values, a, p);
     }
     if k == WRITE {
-        return write_value(addrs, values, a, at(values, b), at(values, c), j);
+        return write_value(values, a, p, at(values, c), j);
     }
     word_value(node, at(values, a), at(values, b))
 }

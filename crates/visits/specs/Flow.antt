@@ -1,4 +1,4 @@
--- The lowering of a table, whatever its kinds do: visits by fuel, as in the study `lower`, with constraints.
+-- The lowering of a table, whatever its kinds do: visits by fuel, with constraints.
 use mathlib.Core.Path.{_≡_}
 use mathlib.Core.List.{List}
 use mathlib.Core.Bool.{Bool, true, false}

@@ -18,6 +18,7 @@ use Rattle.table.proofs.size.Laws.{size-room}
 use Rattle.values.proofs.slot.Laws.{operands-in}
 use Rattle.values.specs.declared.Answer.{Answer}
 use Rattle.values.specs.declared.Answer.the-variants.{Done, Table, ValueRoom, Input}
+use Rattle.values.specs.Value.{placeAt}
 use Rattle.values.specs.Eval.{Ready, slots, offset, total, inputBad, slotStep, nodeStep, run, evalClear, evalWords}
 
 module _ (t l vals : List ℕ) (i : ℕ) (d : Node) (r : Bool) (e : d ≡ nodeAt t (i + 1)) (g : r ≡ given d) where
@@ -28,18 +29,18 @@ module _ (t l vals : List ℕ) (i : ℕ) (d : Node) (r : Bool) (e : d ≡ nodeAt
   unfolding nodeStep
   node-kept h = sym (pick-true _ _ _ (is-given ∙ h))
 
-  node-made : (o a b c m : ℕ) (x : List ℕ) → r ≡ false → o ≡ offset t l (i + 1) → a ≡ offset t l (d .a) → b ≡ offset t l (d .b) → c ≡ offset t l (d .c)
-      → m ≡ sizeOf Slot (length l) 0 (d .width) → x ≡ iter m (slotStep l d o a b c) vals → x ≡ nodeStep t l i vals
+  node-made : (o a b c p m : ℕ) (x : List ℕ) → r ≡ false → o ≡ offset t l (i + 1) → a ≡ offset t l (d .a) → b ≡ offset t l (d .b) → c ≡ offset t l (d .c) → p ≡ placeAt l d vals b
+      → m ≡ sizeOf Slot (length l) 0 (d .width) → x ≡ iter m (slotStep l d o a b c p) vals → x ≡ nodeStep t l i vals
   unfolding nodeStep nodeSize
-  node-made o a b c m x h eo ea eb ec em q =
-      let made : x ≡ iter (slots t l i) (slotStep l (nodeAt t (i + 1)) (offset t l (i + 1)) (offset t l (aOf t (i + 1))) (offset t l (bOf t (i + 1))) (offset t l (cOf t (i + 1)))) vals = cc in
+  node-made o a b c p m x h eo ea eb ec ep em q =
+      let made : x ≡ iter (slots t l i) (slotStep l (nodeAt t (i + 1)) (offset t l (i + 1)) (offset t l (aOf t (i + 1))) (offset t l (bOf t (i + 1))) (offset t l (cOf t (i + 1))) (placeAt l (nodeAt t (i + 1)) vals (offset t l (bOf t (i + 1))))) vals = cc in
       made ∙ sym (pick-false _ _ _ (is-given ∙ h))
 
-  pub node-filled : Fine t l → (o : List ℕ) → Offsets Slot t (length l) 0 o → i < nodes t → (m : ℕ) (x : List ℕ) → r ≡ false → m ≡ sizeOf Slot (length l) 0 (d .width)
-      → x ≡ iter m (slotStep l d (getD o (i + 1) 0) (getD o (d .a) 0) (getD o (d .b) 0) (getD o (d .c) 0)) vals → x ≡ nodeStep t l i vals
-  node-filled f o s h m x k em q =
-      let p = operands-in t l i d f h e in
-      node-made _ _ _ _ m x k (s .at (i + 1) (omega arith)) (s .at (d .a) (omega arith)) (s .at (d .b) (omega arith)) (s .at (d .c) (omega arith)) em q
+  pub node-filled : Fine t l → (o : List ℕ) → Offsets Slot t (length l) 0 o → i < nodes t → (p m : ℕ) (x : List ℕ) → r ≡ false → p ≡ placeAt l d vals (getD o (d .b) 0) → m ≡ sizeOf Slot (length l) 0 (d .width)
+      → x ≡ iter m (slotStep l d (getD o (i + 1) 0) (getD o (d .a) 0) (getD o (d .b) 0) (getD o (d .c) 0) p) vals → x ≡ nodeStep t l i vals
+  node-filled f o s h p m x k ep em q =
+      let z = operands-in t l i d f h e in
+      node-made _ _ _ _ p m x k (s .at (i + 1) (omega arith)) (s .at (d .a) (omega arith)) (s .at (d .b) (omega arith)) (s .at (d .c) (omega arith)) ep em q
 
 pub fill-room : (t l o : List ℕ) (i : ℕ) (d : Node) (m n : ℕ) → Ready t l o → i < nodes t → d ≡ nodeAt t (i + 1) → m ≡ sizeOf Slot (length l) 0 (d .width)
     → total t l ≤ n → getD o (i + 1) 0 + m ≤ n

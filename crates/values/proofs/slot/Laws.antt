@@ -1,40 +1,33 @@
 -- A slot of a node, path by path.
-use mathlib.Core.Path.{_≡_, sym}
+use mathlib.Core.Path.{_≡_, ap, sym, _∙_}
 use mathlib.Core.List.{List}
+use mathlib.Core.Bool.{Bool, true, false, not}
 use Prim.Native.Nat.{ℕ, zero, suc, _+_, _-_, _*_, _≤_, _<_}
 use native.Mathlib.Omega.{arith}
 use lib.Dec.{eqb}
 use lib.ListN.{length, getD, List·getD-eq-default}
-use borrow.Author.Tests.{lt-ltb, le-ltb, eq-eqb, ne-eqb}
+use borrow.Author.Tests.{eq-eqb, ne-eqb, not-true, not-false}
 use Rattle.loops.specs.Loop.{pick, first, sum}
-use Rattle.loops.proofs.Loop.{by-pick}
+use Rattle.loops.proofs.Loop.{by-pick, pick-true, pick-false}
 use Rattle.table.specs.declared.Node.{Node}
 use Rattle.table.specs.declared.Unit.the-variants.{Slot}
-use Rattle.table.specs.Kind.{STATE, ITE, READ, WRITE}
+use Rattle.table.specs.Kind.{STATE, ITE, READ, WRITE, accesses}
 use Rattle.table.specs.Node.{nodes, nodeAt, widthOf, Fine}
 use Rattle.table.specs.Sheet.{isAt}
 use Rattle.table.specs.Size.{sizeOf, nodeSize, offsetOf, Offsets}
-use Rattle.values.specs.Value.{readValue, writeValue, iteValue, wordValue, slotValue}
+use Rattle.values.specs.Value.{listed, readValue, writeValue, iteValue, wordValue, placeAt, slotAt}
 
 pub at-out : (v : List ℕ) (i : ℕ) → length v ≤ i → 0 ≡ getD v i 0
 at-out v i l = let e : getD v i 0 ≡ 0 = List·getD-eq-default v 0 l in sym e
 
-module _ (l vals : List ℕ) (o x j : ℕ) (e : j ≡ first (length l) (isAt l x)) where
-  pub read-in : (r : ℕ) → j < length l → r ≡ getD vals (o + j) 0 → r ≡ readValue l vals o x
-  unfolding readValue pick
-  read-in r h q = rw (← e, lt-ltb j (length l) h) q
+module _ (l : List ℕ) (d : Node) (vals : List ℕ) (b : ℕ) (r : Bool) (e : r ≡ accesses (d .kind)) where
+  pub place-none : not r ≡ true → 0 ≡ placeAt l d vals b
+  unfolding placeAt
+  place-none h = sym (pick-false _ _ _ (sym e ∙ not-true r h))
 
-  pub read-out : length l ≤ j → 0 ≡ readValue l vals o x
-  unfolding readValue pick
-  read-out h = rw (← e, le-ltb j (length l) h)
-
-  pub write-in : (y i : ℕ) → i ≡ j → y ≡ writeValue l vals o x y i
-  unfolding writeValue pick
-  write-in y i h = rw (← e, eq-eqb i j h)
-
-  pub write-out : (y i r : ℕ) → (i ≡ j → ⊥) → r ≡ getD vals (o + i) 0 → r ≡ writeValue l vals o x y i
-  unfolding writeValue pick
-  write-out y i r h q = rw (← e, ne-eqb i j h) q
+  pub place-found : (x j : ℕ) → not r ≡ false → x ≡ getD vals b 0 → j ≡ first (length l) (isAt l x) → j ≡ placeAt l d vals b
+  unfolding placeAt
+  place-found x j h q f = (f ∙ ap (listed l) q) ∙ sym (pick-true _ _ _ (sym e ∙ not-false r h))
 
 module _ (vals : List ℕ) (a b c j x r : ℕ) (e : x ≡ getD vals a 0) where
   pub ite-true : x ≡ 1 → r ≡ getD vals (b + j) 0 → r ≡ iteValue vals a b c j
@@ -45,26 +38,26 @@ module _ (vals : List ℕ) (a b c j x r : ℕ) (e : x ≡ getD vals a 0) where
   unfolding iteValue pick
   ite-false h q = rw (← e, ne-eqb x 1 h) q
 
-module _ (l : List ℕ) (d : Node) (vals : List ℕ) (a b c j r : ℕ) where
-  pub slot-state : d .kind ≡ STATE → r ≡ getD vals (a + j) 0 → r ≡ slotValue l d vals a b c j
-  unfolding slotValue pick
+module _ (l : List ℕ) (d : Node) (vals : List ℕ) (a b c p j r : ℕ) where
+  pub slot-state : d .kind ≡ STATE → r ≡ getD vals (a + j) 0 → r ≡ slotAt l d vals a b c p j
+  unfolding slotAt pick
   slot-state h q = rw h q
 
-  pub slot-ite : d .kind ≡ ITE → r ≡ iteValue vals a b c j → r ≡ slotValue l d vals a b c j
-  unfolding slotValue pick
+  pub slot-ite : d .kind ≡ ITE → r ≡ iteValue vals a b c j → r ≡ slotAt l d vals a b c p j
+  unfolding slotAt pick
   slot-ite h q = rw h q
 
-  pub slot-read : (x : ℕ) → d .kind ≡ READ → x ≡ getD vals b 0 → r ≡ readValue l vals a x → r ≡ slotValue l d vals a b c j
-  unfolding slotValue pick
-  slot-read x h e q = rw (h, ← e) q
+  pub slot-read : d .kind ≡ READ → r ≡ readValue l vals a p → r ≡ slotAt l d vals a b c p j
+  unfolding slotAt pick
+  slot-read h q = rw h q
 
-  pub slot-write : (x y : ℕ) → d .kind ≡ WRITE → x ≡ getD vals b 0 → y ≡ getD vals c 0 → r ≡ writeValue l vals a x y j → r ≡ slotValue l d vals a b c j
-  unfolding slotValue pick
-  slot-write x y h e f q = rw (h, ← e, ← f) q
+  pub slot-write : (y : ℕ) → d .kind ≡ WRITE → y ≡ getD vals c 0 → r ≡ writeValue vals a p y j → r ≡ slotAt l d vals a b c p j
+  unfolding slotAt pick
+  slot-write y h f q = rw (h, ← f) q
 
   pub slot-word : (x y : ℕ) → (d .kind ≡ STATE → ⊥) → (d .kind ≡ ITE → ⊥) → (d .kind ≡ READ → ⊥) → (d .kind ≡ WRITE → ⊥) → x ≡ getD vals a 0 → y ≡ getD vals b 0
-      → r ≡ wordValue d x y → r ≡ slotValue l d vals a b c j
-  unfolding slotValue pick
+      → r ≡ wordValue d x y → r ≡ slotAt l d vals a b c p j
+  unfolding slotAt pick
   slot-word x y h3 h10 h16 h17 e f q = rw (ne-eqb (d .kind) STATE h3, ne-eqb (d .kind) ITE h10, ne-eqb (d .kind) READ h16, ne-eqb (d .kind) WRITE h17, ← e, ← f) q
 
 -- few slots, and no far offsets

@@ -3,8 +3,8 @@ use Rattle.values.specs.Eval.{slotStep}
 use Rattle.values.proofs.eval.slot_step.Statement.{statement}
 use Rattle.values.proofs.eval.slot_step.Tie as tie
 
-slot-value-requires : tie.Need-slot-value-requires
-slot-value-requires c κs = search needs
+slot-at-requires : tie.Need-slot-at-requires
+slot-at-requires c κs = search needs
 
 add-values : tie.Need-add-values
 add-values c = search needs
@@ -25,4 +25,4 @@ returns c = cc
 pub slot-step-spec : {M : Type 1} → statement M
 slot-step-spec =
     tie.close
-    (tie.spec slot-value-requires add-values mul-values slice-write-values same-length returns)
+    (tie.spec slot-at-requires add-values mul-values slice-write-values same-length returns)
