@@ -1,0 +1,2 @@
+pub mod MeaningPlaces
+pub mod Meaning
