@@ -1,2 +1,5 @@
 pub mod MeaningPlaces
 pub mod Meaning
+pub mod RightWords
+pub mod RightOperands
+pub mod RightPlain

@@ -1,0 +1,81 @@
+-- What a node reads of its operands: their right bits say their slots.
+use mathlib.Core.Path.{_≡_, refl, ap, sym, _∙_}
+use mathlib.Core.List.{List}
+use mathlib.Core.Bool.{Bool, true, false, _&&_}
+use Prim.Native.Nat.{ℕ, zero, suc, _+_, _-_, _*_, _^_, _≤_, _<_}
+use native.Mathlib.Omega.{arith}
+use lib.Dec.{eqb}
+use lib.ListN.{length, getD}
+use Rattle.loops.specs.Loop.{pick}
+use Rattle.loops.proofs.Loop.{pick-false}
+use Rattle.table.specs.declared.Node.{Node}
+use Rattle.table.specs.Kind.{ITE, usesA, usesB, usesC}
+use Rattle.table.specs.Node.{nodes, widthOf, given}
+use Rattle.table.proofs.Whole.{Sound}
+use Rattle.values.specs.Eval.{offset}
+use Rattle.netlist.specs.Bit.{isKnown}
+use Rattle.netlist.specs.Net.{Net, Assign}
+use Rattle.gates.specs.Law.{Ext}
+use Rattle.words.specs.Num.{num}
+use Rattle.words.specs.Each.{Word}
+use Rattle.visits.specs.Flow.{Core}
+use Rattle.visits.specs.Claims.{Is, Right, Considered}
+use Rattle.lowering.specs.Source.{Source, nodeOf, wordsOf, wideOf, wordAt, conditionOf, secondOf, thirdOf}
+use Rattle.lowering.specs.Lower.{recipe}
+use Rattle.lowering.specs.Meaning.{slotOf, meaning}
+use Rattle.lowering.proofs.MeaningPlaces.{sound-of, words-word}
+use Rattle.lowering.proofs.Meaning.{Evaluated, workedOut, right-says, says-right}
+use Rattle.lowering.proofs.RightWords.{Operable, WordMade, inputs-bound}
+
+-- a word's one slot
+pub slot-word : (S : Source) (x : List ℕ) (k : ℕ) → slotOf S x k 0 ≡ getD x (offset (S .table) (S .addrs) k) 0
+slot-word S x k = let q : offset (S .table) (S .addrs) k + 0 ≡ offset (S .table) (S .addrs) k = omega arith in ap (λ p. getD x p 0) q
+
+module _ {S : Source} {x : List ℕ} (v : Evaluated S x) {k : ℕ} (is : Is (recipe S) k) where
+  pub sound : Sound (S .table) (S .word) k
+  sound = sound-of S (v .clear) k (is .low) (is .high)
+
+  -- its operands are nodes
+  pub a-is : 1 ≤ nodeOf S k .a → Is (recipe S) (nodeOf S k .a)
+  a-is u = record { low = u; high = omega (arith, sound .operands .a, is .high) }
+
+  pub b-is : usesB (nodeOf S k .kind) ≡ true → Is (recipe S) (nodeOf S k .b)
+  b-is u = record { low = sound .operands .b-used u; high = omega (arith, sound .operands .b, is .high) }
+
+  pub c-is : usesC (nodeOf S k .kind) ≡ true → Is (recipe S) (nodeOf S k .c)
+  c-is u = record { low = sound .operands .c-used u; high = omega (arith, sound .operands .c, is .high) }
+
+  second-plain : (m : List ℕ) → eqb (nodeOf S k .kind) ITE ≡ false → secondOf S m k ≡ nodeOf S k .b
+  unfolding secondOf
+  second-plain m n = rw n (pick-false _ _ _ refl)
+
+  third-plain : (m : List ℕ) → eqb (nodeOf S k .kind) ITE ≡ false → thirdOf S m k ≡ nodeOf S k .c
+  unfolding thirdOf
+  third-plain m n = rw n (pick-false _ _ _ refl)
+
+  module _ (m n : List ℕ) (e : Assign) (o : Operable S x k m e n) where
+    -- and their bits are right
+    pub a-right : 1 ≤ nodeOf S k .a → Right (recipe S) (meaning S x) e n (nodeOf S k .a)
+    a-right u = o .first (λ z. omega arith)
+
+    pub b-right : eqb (nodeOf S k .kind) ITE ≡ false → usesB (nodeOf S k .kind) ≡ true → Right (recipe S) (meaning S x) e n (nodeOf S k .b)
+    b-right ni u = let q : secondOf S m k ≡ nodeOf S k .b = second-plain m ni in rw q at (o .second (λ z. omega (arith, b-is u .low)))
+
+    pub c-right : eqb (nodeOf S k .kind) ITE ≡ false → usesC (nodeOf S k .kind) ≡ true → Right (recipe S) (meaning S x) e n (nodeOf S k .c)
+    c-right ni u = let q : thirdOf S m k ≡ nodeOf S k .c = third-plain m ni in rw q at (o .third (λ z. omega (arith, c-is u .low)))
+
+  -- the bits of an operand that is a word say its value
+  pub word-says : {y : ℕ} → Is (recipe S) y → 1 ≤ widthOf (S .table) y → (e : Assign) (n : List ℕ) → Right (recipe S) (meaning S x) e n y
+      → num e (wordAt S n y 0) (wideOf S y) ≡ getD x (offset (S .table) (S .addrs) y) 0
+  word-says {y} iy h e n r = right-says v iy {i = 0} (omega (arith, words-word S y h)) e n r ∙ slot-word S x y
+
+  -- from a word's law to its bits: it is enough that they say what the node's kind makes of its operands' values
+  pub word-made : {m : List ℕ} {i : ℕ} {t : Core} {y : Word} (c : ℕ) → i < wordsOf S k → given (nodeOf S k) ≡ false → Ext (t .net) (y .net) c
+      → ((e : Assign) → Considered (meaning S x) (y .net) e → Operable S x k m e (t .map) → num e (y .out) (wideOf S k) ≡ workedOut S x k i) → WordMade S x k m i t y
+  word-made {m} {i} {t} {y} c lt g ext says =
+      record {
+        cost = c;
+        grows = ext .grows;
+        only = inputs-bound (t .net) (y .net) c ext;
+        right = λ e ce o. says-right v is {i = i} lt e (y .out) (says e ce o ∙ sym (v .made k i is lt g));
+      }
