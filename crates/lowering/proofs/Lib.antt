@@ -3,3 +3,5 @@ pub mod Meaning
 pub mod RightWords
 pub mod RightOperands
 pub mod RightPlain
+pub mod RightInput
+pub mod RightShare

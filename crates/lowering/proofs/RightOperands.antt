@@ -77,5 +77,5 @@ module _ {S : Source} {x : List ℕ} (v : Evaluated S x) {k : ℕ} (is : Is (rec
         cost = c;
         grows = ext .grows;
         only = inputs-bound (t .net) (y .net) c ext;
-        right = λ e ce o. says-right v is {i = i} lt e (y .out) (says e ce o ∙ sym (v .made k i is lt g));
+        right = λ e ce before o. says-right v is {i = i} lt e (y .out) (says e ce o ∙ sym (v .made k i is lt g));
       }

@@ -64,7 +64,7 @@ pub record WordMade (S : Source) (x : List ℕ) (k : ℕ) (m : List ℕ) (i : �
   pub cost : ℕ
   pub grows : Grows (t .net) (y .net) cost
   pub only : Inputs (t .net) (y .net)
-  pub right : (e : Assign) → Considered (meaning S x) (y .net) e → Operable S x k m e (t .map) → (j : ℕ) → j < wideOf S k → e (getD (y .out) j 0) ≡ valueOf S x k (i * wideOf S k + j)
+  pub right : (e : Assign) → Considered (meaning S x) (y .net) e → Operable S x k m e m → Operable S x k m e (t .map) → (j : ℕ) → j < wideOf S k → e (getD (y .out) j 0) ≡ valueOf S x k (i * wideOf S k + j)
 
 module _ (S : Source) (x : List ℕ) (k : ℕ) (clear : Sheeted S) (is : Is (recipe S) k) where
   -- bits below a node's own are right where they were
@@ -113,7 +113,6 @@ module _ (S : Source) (x : List ℕ) (k : ℕ) (s : Core) (f : ℕ → Core → 
 
   room : (i : ℕ) → i < wordsOf S k → offOf S k + i * wideOf S k + wideOf S k ≤ length (s .map)
   room i lt =
-      let w : ℕ = wideOf S k in
       let r : suc i + (wordsOf S k - suc i) ≡ wordsOf S k = omega arith in
       let b : bitsOf S k ≡ (suc i + (wordsOf S k - suc i)) * wideOf S k = bits-all S k (ready .is .low) ∙ ap (λ n. n * wideOf S k) (sym r) in
       omega (arith, inside S k (ready .is .low) (ready .is .high), ready .mapped)
@@ -148,7 +147,7 @@ module _ (S : Source) (x : List ℕ) (k : ℕ) (s : Core) (f : ℕ → Core → 
           let n : offOf S k + i * wideOf S k + (j - i * wideOf S k) ≡ offOf S k + j = omega arith in
           let g : j - i * wideOf S k < wideOf S k = omega arith in
           let u : e (getD (f i t .out) (j - i * wideOf S k) 0) ≡ valueOf S x k (i * wideOf S k + (j - i * wideOf S k)) =
-          m .right e ce (operable-kept S x k clear (ready .is) (s .map) (s .map) (t .map) e (h .below) o) (j - i * wideOf S k) g in
+          m .right e ce o (operable-kept S x k clear (ready .is) (s .map) (s .map) (t .map) e (h .below) o) (j - i * wideOf S k) g in
           let a : getD (putBits (offOf S k + i * wideOf S k) (f i t .out) (wideOf S k) (t .map)) (offOf S k + j) 0 ≡ getD (f i t .out) (j - i * wideOf S k) 0 = rw n at (p .there (j - i * wideOf S k) g) in
           ap e a ∙ (u ∙ ap (valueOf S x k) z)
 
