@@ -5,3 +5,4 @@ pub mod RightOperands
 pub mod RightPlain
 pub mod RightInput
 pub mod RightShare
+pub mod RightChoice
