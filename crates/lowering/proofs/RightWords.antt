@@ -59,12 +59,16 @@ inputs-bound s t c x room g lo hi fr = absurd (let z : _≡_ {A = ℕ} 0 1 = cc 
 abbrev pub Operable : Source → List ℕ → ℕ → List ℕ → Assign → List ℕ → Type 0
 Operable S x k m e n = Operands (recipe S) m k (Right (recipe S) (meaning S x) e n)
 
--- word i of node k, made at t: its bits are right where the operands' are
-pub record WordMade (S : Source) (x : List ℕ) (k : ℕ) (m : List ℕ) (i : ℕ) (t : Core) (y : Word) : Type 0 where
+-- word i of node k, made at t: where the operands' bits are right, its bits are the truth values `val`
+pub record WordSays (S : Source) (x : List ℕ) (k : ℕ) (val : ℕ → Bool) (m : List ℕ) (i : ℕ) (t : Core) (y : Word) : Type 0 where
   pub cost : ℕ
   pub grows : Grows (t .net) (y .net) cost
   pub only : Inputs (t .net) (y .net)
-  pub right : (e : Assign) → Considered (meaning S x) (y .net) e → Operable S x k m e m → Operable S x k m e (t .map) → (j : ℕ) → j < wideOf S k → e (getD (y .out) j 0) ≡ valueOf S x k (i * wideOf S k + j)
+  pub right : (e : Assign) → Considered (meaning S x) (y .net) e → Operable S x k m e m → Operable S x k m e (t .map) → (j : ℕ) → j < wideOf S k → e (getD (y .out) j 0) ≡ val (i * wideOf S k + j)
+
+-- the node's own value
+abbrev pub WordMade : Source → List ℕ → ℕ → List ℕ → ℕ → Core → Word → Type 0
+WordMade S x k m i t y = WordSays S x k (valueOf S x k) m i t y
 
 module _ (S : Source) (x : List ℕ) (k : ℕ) (clear : Sheeted S) (is : Is (recipe S) k) where
   -- bits below a node's own are right where they were
@@ -88,18 +92,18 @@ module _ (S : Source) (x : List ℕ) (k : ℕ) (clear : Sheeted S) (is : Is (rec
       }
 
 -- the first i words are made
-pub record WordsMade (S : Source) (x : List ℕ) (k : ℕ) (s : Core) (i : ℕ) (t : Core) : Type 0 where
+pub record WordsSay (S : Source) (x : List ℕ) (k : ℕ) (val : ℕ → Bool) (s : Core) (i : ℕ) (t : Core) : Type 0 where
   pub cost : ℕ
   pub grows : Grows (s .net) (t .net) cost
   pub only : Inputs (s .net) (t .net)
   pub asks : t .nc ≡ s .nc
   pub long : length (t .map) ≡ length (s .map)
   pub below : (p : ℕ) → p < offOf S k → getD (t .map) p 0 ≡ getD (s .map) p 0
-  pub right : (e : Assign) → Considered (meaning S x) (t .net) e → Operable S x k (s .map) e (s .map) → (j : ℕ) → j < i * wideOf S k → e (getD (t .map) (offOf S k + j) 0) ≡ valueOf S x k j
+  pub right : (e : Assign) → Considered (meaning S x) (t .net) e → Operable S x k (s .map) e (s .map) → (j : ℕ) → j < i * wideOf S k → e (getD (t .map) (offOf S k + j) 0) ≡ val j
 
-module _ (S : Source) (x : List ℕ) (k : ℕ) (s : Core) (f : ℕ → Core → Word) (clear : Sheeted S) (ready : Ready (recipe S) k s)
-    (each : (i : ℕ) (t : Core) → i < wordsOf S k → WordMade S x k (s .map) i t (f i t)) where
-  words-none : WordsMade S x k s 0 s
+module _ (S : Source) (x : List ℕ) (k : ℕ) (val : ℕ → Bool) (s : Core) (f : ℕ → Core → Word) (clear : Sheeted S) (ready : Ready (recipe S) k s)
+    (each : (i : ℕ) (t : Core) → i < wordsOf S k → WordSays S x k val (s .map) i t (f i t)) where
+  words-none : WordsSay S x k val s 0 s
   words-none =
       record {
         cost = 0;
@@ -117,7 +121,7 @@ module _ (S : Source) (x : List ℕ) (k : ℕ) (s : Core) (f : ℕ → Core → 
       let b : bitsOf S k ≡ (suc i + (wordsOf S k - suc i)) * wideOf S k = bits-all S k (ready .is .low) ∙ ap (λ n. n * wideOf S k) (sym r) in
       omega (arith, inside S k (ready .is .low) (ready .is .high), ready .mapped)
 
-  words-next : (i : ℕ) (t : Core) → i < wordsOf S k → WordsMade S x k s i t → WordsMade S x k s (suc i) (wordStep S k f i t)
+  words-next : (i : ℕ) (t : Core) → i < wordsOf S k → WordsSay S x k val s i t → WordsSay S x k val s (suc i) (wordStep S k f i t)
   unfolding wordStep stored
   words-next i t lt h =
       record {
@@ -133,33 +137,35 @@ module _ (S : Source) (x : List ℕ) (k : ℕ) (s : Core) (f : ℕ → Core → 
       y : Word
       y = f i t
 
-      m : WordMade S x k (s .map) i t (f i t)
+      m : WordSays S x k val (s .map) i t (f i t)
       m = each i t lt
 
       p : Put (offOf S k + i * wideOf S k) (f i t .out) (t .map) (wideOf S k) (putBits (offOf S k + i * wideOf S k) (f i t .out) (wideOf S k) (t .map))
       p = put-law (offOf S k + i * wideOf S k) (f i t .out) (t .map) (wideOf S k) (omega (arith, room i lt, h .long))
 
       at : (e : Assign) → Considered (meaning S x) (f i t .net) e → Operable S x k (s .map) e (s .map) → (j : ℕ) → j < suc i * wideOf S k → Dec (j < i * wideOf S k)
-          → e (getD (putBits (offOf S k + i * wideOf S k) (f i t .out) (wideOf S k) (t .map)) (offOf S k + j) 0) ≡ valueOf S x k j
+          → e (getD (putBits (offOf S k + i * wideOf S k) (f i t .out) (wideOf S k) (t .map)) (offOf S k + j) 0) ≡ val j
       at e ce o j l (yes q) = ap e (p .below (offOf S k + j) (omega arith)) ∙ h .right e (considered-back (meaning S x) (t .net) (f i t .net) (m .cost) e (m .grows) ce) o j q
       at e ce o j l (no q) =
           let z : i * wideOf S k + (j - i * wideOf S k) ≡ j = omega arith in
           let n : offOf S k + i * wideOf S k + (j - i * wideOf S k) ≡ offOf S k + j = omega arith in
           let g : j - i * wideOf S k < wideOf S k = omega arith in
-          let u : e (getD (f i t .out) (j - i * wideOf S k) 0) ≡ valueOf S x k (i * wideOf S k + (j - i * wideOf S k)) =
+          let u : e (getD (f i t .out) (j - i * wideOf S k) 0) ≡ val (i * wideOf S k + (j - i * wideOf S k)) =
           m .right e ce o (operable-kept S x k clear (ready .is) (s .map) (s .map) (t .map) e (h .below) o) (j - i * wideOf S k) g in
           let a : getD (putBits (offOf S k + i * wideOf S k) (f i t .out) (wideOf S k) (t .map)) (offOf S k + j) 0 ≡ getD (f i t .out) (j - i * wideOf S k) 0 = rw n at (p .there (j - i * wideOf S k) g) in
-          ap e a ∙ (u ∙ ap (valueOf S x k) z)
+          ap e a ∙ (u ∙ ap val z)
 
-  pub words-made : WordsMade S x k s (wordsOf S k) (eachWord S k f s)
-  words-made = iter-inv (WordsMade S x k s) (wordStep S k f) s (wordsOf S k) words-none words-next
+  pub words-made : WordsSay S x k val s (wordsOf S k) (eachWord S k f s)
+  words-made = iter-inv (WordsSay S x k val s) (wordStep S k f) s (wordsOf S k) words-none words-next
 
-  pub words-right : divides (nodeOf S k .kind) ≡ false → StepRight (recipe S) (meaning S x) k s (eachWord S k f s)
-  words-right nd =
-      plain-right
-      (record {
-        asks = words-made .asks;
-        only = words-made .only;
-        divides = λ e ce o. rw nd;
-        right = λ e ce o j l. words-made .right e ce o j (rw (bits-all S k (ready .is .low)) at l);
-      })
+pub words-right : (S : Source) (x : List ℕ) (k : ℕ) (s : Core) (f : ℕ → Core → Word) → Sheeted S → Ready (recipe S) k s → divides (nodeOf S k .kind) ≡ false
+    → ((i : ℕ) (t : Core) → i < wordsOf S k → WordMade S x k (s .map) i t (f i t)) → StepRight (recipe S) (meaning S x) k s (eachWord S k f s)
+words-right S x k s f clear ready nd each =
+    let w = words-made S x k (valueOf S x k) s f clear ready each in
+    plain-right
+    (record {
+      asks = w .asks;
+      only = w .only;
+      divides = λ e ce o. rw nd;
+      right = λ e ce o j l. w .right e ce o j (rw (bits-all S k (ready .is .low)) at l);
+    })
