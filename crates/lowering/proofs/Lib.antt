@@ -6,3 +6,5 @@ pub mod RightPlain
 pub mod RightInput
 pub mod RightShare
 pub mod RightChoice
+pub mod RightRead
+pub mod RightWrite

@@ -1,20 +1,17 @@
 -- A table's values and its nodes' bits: a word's bits say its slot exactly if each is the value's digit.
 use mathlib.Core.Path.{_≡_, refl, ap, ap₂, sym, _∙_}
 use mathlib.Core.List.{List}
-use mathlib.Core.Bool.{Bool, true, false}
-use Prim.Native.Nat.{ℕ, zero, suc, _+_, _-_, _*_, _/_, _%_, _^_, _≤_, _<_}
+use mathlib.Core.Bool.{false}
+use Prim.Native.Nat.{ℕ, _+_, _-_, _*_, _/_, _%_, _^_, _<_}
 use native.Mathlib.Omega.{arith}
 use native.Mathlib.Nat.{mul-add-div-right, mul-add-mod-self-right, div-eq-of-lt, mod-eq-of-lt}
-use lib.ListN.{length, getD}
-use Rattle.loops.specs.Loop.{pick}
-use Rattle.table.specs.declared.Node.{Node}
-use Rattle.table.specs.declared.Unit.the-variants.{Slot}
-use Rattle.table.specs.Node.{nodes, nodeAt, widthOf, given}
+use lib.ListN.{getD}
+use Rattle.table.specs.Node.{nodes, given}
 use Rattle.table.specs.Size.{nodeSize}
 use Rattle.values.specs.declared.Answer.the-variants.{Done}
 use Rattle.values.specs.Value.{slotValue}
-use Rattle.values.specs.Eval.{slots, offset, nodeGiven, slotWidth, evalWords}
-use Rattle.values.specs.Frame.{Made, Valued, InRange}
+use Rattle.values.specs.Eval.{slots, offset, slotWidth, evalWords}
+use Rattle.values.specs.Frame.{Valued, InRange}
 use Rattle.values.proofs.Kept.{finished}
 use Rattle.values.proofs.Local.{done-right}
 use Rattle.values.proofs.Range.{in-range}
@@ -22,10 +19,10 @@ use Rattle.netlist.specs.Net.{Assign}
 use Rattle.words.specs.Num.{num}
 use Rattle.words.proofs.NumLaws.{right-num, num-right}
 use Rattle.visits.specs.Claims.{Is, Right}
-use Rattle.lowering.specs.Source.{Source, nodeOf, wordsOf, wideOf, bitsOf, offOf, wordAt}
+use Rattle.lowering.specs.Source.{Source, nodeOf, wordsOf, wideOf, wordAt}
 use Rattle.lowering.specs.Lower.{recipe}
 use Rattle.lowering.specs.Meaning.{slotOf, isOne, valueOf, meaning}
-use Rattle.lowering.proofs.MeaningPlaces.{Sheeted, wide-range, bits-all, word-bit, place-in}
+use Rattle.lowering.proofs.MeaningPlaces.{Sheeted, bits-all, word-bit, place-in}
 
 -- slot j of node k, worked out from the slots of its operands
 abbrev pub workedOut : Source → List ℕ → ℕ → ℕ → ℕ

@@ -4,22 +4,21 @@ use mathlib.Core.List.{List}
 use mathlib.Core.Bool.{Bool, true, false}
 use Prim.Native.Nat.{ℕ, zero, suc, _+_, _-_, _*_, _≤_, _<_}
 use native.Mathlib.Omega.{arith}
-use native.Mathlib.Decide.{decLt}
 use lib.Dec.{eqb}
-use lib.ListN.{length, getD, take, drop}
+use lib.ListN.{getD, drop}
 use lib.Seq.{getD-take, getD-drop}
 use borrow.Author.Tests.{eq-eqb, ne-eqb}
 use Rattle.loops.specs.Loop.{pick}
 use Rattle.loops.proofs.Loop.{pick-true, pick-false}
 use Rattle.table.specs.declared.Fault.the-variants.{Clear}
-use Rattle.table.specs.declared.Unit.the-variants.{Bit, Slot}
-use Rattle.table.specs.Node.{nodes, nodeAt, widthOf}
+use Rattle.table.specs.declared.Unit.the-variants.{Bit}
+use Rattle.table.specs.Node.{nodes, widthOf}
 use Rattle.table.specs.Size.{sizeOf, nodeSize}
 use Rattle.table.specs.Sheet.{tableFault}
 use Rattle.table.proofs.Whole.{Sound, within, fine, each-sound}
 use Rattle.table.proofs.size.Laws as size
-use Rattle.values.specs.Eval.{slots, slotWidth}
-use Rattle.lowering.specs.Source.{Source, listed, nodeOf, wordsOf, wideOf, bitsOf, offOf, totalOf, wordAt}
+use Rattle.values.specs.Eval.{slots}
+use Rattle.lowering.specs.Source.{Source, listed, wordsOf, wideOf, bitsOf, offOf, totalOf, wordAt}
 
 -- a table without fault
 abbrev pub Sheeted : Source → Type 0

@@ -1,25 +1,25 @@
 -- The law of values of an ite: a known condition shares the chosen side, an unknown one chooses bit by bit.
 use mathlib.Core.Path.{_≡_, refl, ap, ap₂, sym, _∙_}
 use mathlib.Core.List.{List}
-use mathlib.Core.Bool.{Bool, true, false, _&&_}
-use Prim.Native.Nat.{ℕ, zero, suc, _+_, _-_, _*_, _^_, _≤_, _<_}
+use mathlib.Core.Bool.{Bool, true, false}
+use Prim.Native.Nat.{ℕ, zero, suc, _+_, _*_, _^_, _≤_, _<_}
 use native.Mathlib.Omega.{arith}
 use lib.Dec.{eqb}
-use lib.ListN.{length, getD}
+use lib.ListN.{getD}
 use borrow.Author.Tests.{ne-eqb}
 use Rattle.loops.specs.Loop.{pick, bit}
 use Rattle.table.specs.declared.Node.{Node}
 use Rattle.table.specs.Kind.{ITE, usesA, usesB, usesC}
-use Rattle.table.specs.Node.{widthOf, given}
+use Rattle.table.specs.Node.{widthOf}
 use Rattle.values.specs.Value.{iteValue}
 use Rattle.values.specs.Eval.{offset}
 use Rattle.values.proofs.ByKind.{at-ite}
 use Rattle.netlist.specs.Bit.{isKnown}
-use Rattle.netlist.specs.Net.{Net, Assign, Obeys}
+use Rattle.netlist.specs.Net.{Assign}
 use Rattle.netlist.proofs.BitLaws.{known-less, unknown-least}
 use Rattle.words.specs.declared.each.Bitwise.the-variants as op
 use Rattle.words.specs.Num.{num}
-use Rattle.words.specs.Each.{Word, bitValue, eachBit, eachCost, EachLaw}
+use Rattle.words.specs.Each.{bitValue, eachBit, eachCost, EachLaw}
 use Rattle.words.proofs.NumLaws.{num-suc, num-none, num-choose, blank-long}
 use Rattle.words.proofs.EachLaws.{each-law}
 use Rattle.visits.specs.Flow.{Core}
@@ -29,7 +29,7 @@ use Rattle.lowering.specs.Own.{fresh, shareWord, chooseWord}
 use Rattle.lowering.specs.Lower.{recipe}
 use Rattle.lowering.specs.Meaning.{slotOf, meaning}
 use Rattle.lowering.proofs.MeaningPlaces.{wide-range, wide-word, wide-same, words-same}
-use Rattle.lowering.proofs.Meaning.{Evaluated, workedOut, right-says}
+use Rattle.lowering.proofs.Meaning.{Evaluated, right-says}
 use Rattle.lowering.proofs.RightWords.{Operable, WordMade}
 use Rattle.lowering.proofs.RightOperands.{sound, a-is, b-is, c-is, a-right, word-says, word-made}
 use Rattle.lowering.proofs.RightShare.{share-made}

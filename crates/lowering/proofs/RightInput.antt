@@ -1,8 +1,8 @@
 -- The law of values of an input or uninitialised state: one InputBit a bit, in order.
-use mathlib.Core.Path.{_≡_, refl, ap, sym, _∙_}
+use mathlib.Core.Path.{_≡_, refl, ap, _∙_}
 use mathlib.Core.List.{List}
-use mathlib.Core.Bool.{Bool, true, false}
-use Prim.Native.Nat.{ℕ, zero, suc, _+_, _-_, _*_, _≤_, _<_}
+use mathlib.Core.Bool.{true}
+use Prim.Native.Nat.{ℕ, suc, _+_, _-_, _*_, _≤_, _<_}
 use native.Mathlib.Omega.{arith}
 use native.Mathlib.Decide.{decLt}
 use lib.ListN.{length, getD, set, length-set}
@@ -10,21 +10,19 @@ use lib.Seq.{getD-set-other, getD-set-same}
 use Rattle.loops.specs.Loop.{iter}
 use Rattle.loops.proofs.Loop.{iter-inv}
 use Rattle.netlist.specs.declared.record.Gate.{Gate}
-use Rattle.netlist.specs.Record.{gate, gateAt, Room}
+use Rattle.netlist.specs.Record.{gateAt, Room}
 use Rattle.netlist.specs.Kind.{free}
-use Rattle.netlist.specs.Net.{Net, Assign}
+use Rattle.netlist.specs.Net.{Net}
 use Rattle.gates.specs.Made.{MadeBit, added, gateInputBit}
 use Rattle.gates.specs.Given.{GivenLaw}
 use Rattle.gates.specs.Law.{Grows}
 use Rattle.gates.proofs.Laws.{grows-refl, grows-trans, grows-weaken, room-back}
 use Rattle.gates.proofs.GivenLaws.{given-law}
 use Rattle.words.specs.Each.{Word}
-use Rattle.words.specs.Num.{blank}
 use Rattle.words.proofs.NumLaws.{blank-long}
 use Rattle.visits.specs.Flow.{Core}
 use Rattle.lowering.specs.Source.{Source, wideOf}
 use Rattle.lowering.specs.Own.{fresh, inputStep, inputWord}
-use Rattle.lowering.specs.Meaning.{valueOf}
 use Rattle.lowering.proofs.MeaningPlaces.{Sheeted, wide-range}
 use Rattle.lowering.proofs.RightWords.{WordMade}
 

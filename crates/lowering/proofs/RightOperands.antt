@@ -1,26 +1,23 @@
 -- What a node reads of its operands: their right bits say their slots.
 use mathlib.Core.Path.{_≡_, refl, ap, sym, _∙_}
 use mathlib.Core.List.{List}
-use mathlib.Core.Bool.{Bool, true, false, _&&_}
-use Prim.Native.Nat.{ℕ, zero, suc, _+_, _-_, _*_, _^_, _≤_, _<_}
+use mathlib.Core.Bool.{true, false}
+use Prim.Native.Nat.{ℕ, _+_, _≤_, _<_}
 use native.Mathlib.Omega.{arith}
 use lib.Dec.{eqb}
-use lib.ListN.{length, getD}
-use Rattle.loops.specs.Loop.{pick}
+use lib.ListN.{getD}
 use Rattle.loops.proofs.Loop.{pick-false}
-use Rattle.table.specs.declared.Node.{Node}
-use Rattle.table.specs.Kind.{ITE, usesA, usesB, usesC}
+use Rattle.table.specs.Kind.{ITE, usesB, usesC}
 use Rattle.table.specs.Node.{nodes, widthOf, given}
 use Rattle.table.proofs.Whole.{Sound}
 use Rattle.values.specs.Eval.{offset}
-use Rattle.netlist.specs.Bit.{isKnown}
-use Rattle.netlist.specs.Net.{Net, Assign}
+use Rattle.netlist.specs.Net.{Assign}
 use Rattle.gates.specs.Law.{Ext}
 use Rattle.words.specs.Num.{num}
 use Rattle.words.specs.Each.{Word}
 use Rattle.visits.specs.Flow.{Core}
 use Rattle.visits.specs.Claims.{Is, Right, Considered}
-use Rattle.lowering.specs.Source.{Source, nodeOf, wordsOf, wideOf, wordAt, conditionOf, secondOf, thirdOf}
+use Rattle.lowering.specs.Source.{Source, nodeOf, wordsOf, wideOf, wordAt, secondOf, thirdOf}
 use Rattle.lowering.specs.Lower.{recipe}
 use Rattle.lowering.specs.Meaning.{slotOf, meaning}
 use Rattle.lowering.proofs.MeaningPlaces.{sound-of, words-word}

@@ -1,13 +1,13 @@
 -- The law of values of the kinds that make one word of one or two: const, not, and, eq, add, sub, ult, mul.
 use mathlib.Core.Path.{_≡_, refl, ap, ap₂, sym, _∙_}
 use mathlib.Core.List.{List}
-use mathlib.Core.Bool.{Bool, true, false, not, _&&_}
+use mathlib.Core.Bool.{true, false, not, _&&_}
 use Prim.Native.Nat.{ℕ, zero, suc, _+_, _-_, _*_, _/_, _%_, _^_, _≤_, _<_}
 use native.Mathlib.Omega.{arith}
 use native.Mathlib.Nat.{mod-eq-of-lt, lt-of-le-of-lt}
 use lib.Bits.{bitAnd, and-le-l, and-shr, and-mod}
 use lib.Dec.{eqb, ltb}
-use lib.ListN.{length, getD, set}
+use lib.ListN.{getD, set}
 use lib.Seq.{getD-set-same}
 use Rattle.loops.specs.Loop.{pick, bit}
 use Rattle.table.specs.declared.Node.{Node}
@@ -17,8 +17,7 @@ use Rattle.table.proofs.Whole.{Even, Compared}
 use Rattle.values.specs.Value.{notWord, addWord, subWord, mulWord}
 use Rattle.values.specs.Eval.{offset}
 use Rattle.values.proofs.ByKind.{at-const, at-not, at-and, at-eq, at-add, at-sub, at-ult, at-mul}
-use Rattle.netlist.specs.Net.{Net, Assign, Obeys}
-use Rattle.gates.specs.Made.{MadeBit}
+use Rattle.netlist.specs.Net.{Assign, Obeys}
 use Rattle.gates.specs.Law.{Ext}
 use Rattle.gates.proofs.Laws.{ext-refl}
 use Rattle.digits.specs.Digits.{digit, putDigits}
@@ -38,14 +37,14 @@ use Rattle.words.proofs.SubLaws.{sub-law, sub-value, ult-law}
 use Rattle.words.proofs.EqLaws.{eq-law}
 use Rattle.words.proofs.MulLaws.{mul-law}
 use Rattle.visits.specs.Flow.{Core}
-use Rattle.visits.specs.Claims.{Is, Considered}
+use Rattle.visits.specs.Claims.{Is}
 use Rattle.lowering.specs.Source.{Source, nodeOf, wordsOf, wideOf, wordAt}
-use Rattle.lowering.specs.Own.{asIs, fresh, ofBit, ofChain, plainWord, wordOwn}
+use Rattle.lowering.specs.Own.{fresh, ofBit, ofChain, plainWord, wordOwn}
 use Rattle.lowering.specs.Lower.{recipe}
-use Rattle.lowering.specs.Meaning.{isOne, meaning}
+use Rattle.lowering.specs.Meaning.{isOne}
 use Rattle.lowering.proofs.MeaningPlaces.{wide-word, wide-same, wide-range}
 use Rattle.lowering.proofs.Meaning.{Evaluated, workedOut}
-use Rattle.lowering.proofs.RightWords.{Operable, WordMade}
+use Rattle.lowering.proofs.RightWords.{WordMade}
 use Rattle.lowering.proofs.RightOperands.{sound, a-is, b-is, a-right, b-right, word-says, word-made}
 
 -- ---- the numbers that are said

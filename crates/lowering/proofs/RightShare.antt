@@ -1,22 +1,20 @@
 -- The law of values of the kinds that share an operand's bits: an initialised state, a bad, an ext, and an ite with a known condition.
-use mathlib.Core.Path.{_≡_, refl, ap, sym, _∙_}
+use mathlib.Core.Path.{_≡_, ap, sym, _∙_}
 use mathlib.Core.List.{List}
-use mathlib.Core.Bool.{Bool, true, false}
-use Prim.Native.Nat.{ℕ, zero, suc, _+_, _-_, _*_, _^_, _≤_, _<_}
+use mathlib.Core.Bool.{false}
+use Prim.Native.Nat.{ℕ, _+_, _-_, _*_, _^_, _≤_, _<_}
 use native.Mathlib.Omega.{arith}
-use lib.Dec.{eqb}
-use lib.ListN.{length, getD, drop}
+use lib.ListN.{getD, drop}
 use lib.Seq.{getD-drop}
-use Rattle.loops.specs.Loop.{pick}
 use Rattle.table.specs.declared.Node.{Node}
 use Rattle.table.specs.Kind.{STATE, BAD, EXT, usesA}
 use Rattle.table.specs.Node.{widthOf, given}
 use Rattle.values.specs.Eval.{offset}
 use Rattle.values.proofs.ByKind.{at-state, at-bad, at-ext}
-use Rattle.netlist.specs.Net.{Net, Assign}
+use Rattle.netlist.specs.Net.{Assign}
 use Rattle.gates.proofs.Laws.{grows-refl}
 use Rattle.words.specs.Num.{num, blank}
-use Rattle.words.specs.Each.{Word, Put}
+use Rattle.words.specs.Each.{Put}
 use Rattle.words.specs.Sub.{widened}
 use Rattle.words.proofs.NumLaws.{blank-long, blank-at}
 use Rattle.words.proofs.EachLaws.{put-law}

@@ -2,16 +2,13 @@
 use mathlib.Core.Path.{_≡_, refl, ap, sym, _∙_}
 use mathlib.Core.List.{List}
 use mathlib.Core.Bool.{Bool, true, false, _&&_}
-use Prim.Native.Nat.{ℕ, zero, suc, _+_, _-_, _*_, _≤_, _<_}
+use Prim.Native.Nat.{ℕ, suc, _+_, _-_, _*_, _≤_, _<_}
 use native.Mathlib.Omega.{arith}
 use native.Mathlib.Decide.{decLt}
 use lib.Dec.{eqb}
 use lib.ListN.{length, getD}
-use Rattle.loops.specs.Loop.{pick, iter}
 use Rattle.loops.proofs.Loop.{by-pick, iter-inv}
-use Rattle.table.specs.declared.Node.{Node}
 use Rattle.table.specs.Kind.{ITE, divides}
-use Rattle.netlist.specs.declared.record.Gate.{Gate}
 use Rattle.netlist.specs.Record.{gateAt, Room}
 use Rattle.netlist.specs.Kind.{free}
 use Rattle.netlist.specs.Bit.{isKnown}
@@ -20,16 +17,15 @@ use Rattle.gates.specs.Law.{Grows, Ext}
 use Rattle.gates.proofs.Laws.{grows-refl, grows-trans, keeps, room-back}
 use Rattle.words.specs.Each.{Word, putBits, Put}
 use Rattle.words.proofs.EachLaws.{put-law}
-use Rattle.visits.specs.Flow.{Core, Recipe}
+use Rattle.visits.specs.Flow.{Core}
 use Rattle.visits.specs.Stored.{stored}
-use Rattle.visits.specs.Claims.{Meaning, Is, Right, Considered, Operands, Ready, Plain, StepRight}
+use Rattle.visits.specs.Claims.{Meaning, Is, Right, Considered, Operands, Ready, StepRight}
 use Rattle.visits.proofs.Plain.{plain-right}
-use Rattle.lowering.specs.Source.{Source, nodeOf, wordsOf, wideOf, bitsOf, offOf, totalOf, firstOf, secondOf, thirdOf, conditionOf}
+use Rattle.lowering.specs.Source.{Source, nodeOf, wordsOf, wideOf, bitsOf, offOf, firstOf, secondOf, thirdOf, conditionOf}
 use Rattle.lowering.specs.Own.{wordStep, eachWord}
 use Rattle.lowering.specs.Lower.{recipe}
 use Rattle.lowering.specs.Meaning.{valueOf, meaning}
 use Rattle.lowering.proofs.MeaningPlaces.{Sheeted, sound-of, before, inside, bits-all}
-use Rattle.lowering.proofs.Meaning.{Evaluated}
 
 -- what is considered of a grown net was considered before
 pub considered-back : (M : Meaning) (s t : Net) (c : ℕ) (e : Assign) → Grows s t c → Considered M t e → Considered M s e
