@@ -8,3 +8,4 @@ pub mod RightShare
 pub mod RightChoice
 pub mod RightRead
 pub mod RightWrite
+pub mod RightDivide

@@ -42,7 +42,7 @@ module _ {S : Source} {x : List ℕ} (v : Evaluated S x) {k : ℕ} (is : Is (rec
   pub c-is : usesC (nodeOf S k .kind) ≡ true → Is (recipe S) (nodeOf S k .c)
   c-is u = record { low = sound .operands .c-used u; high = omega (arith, sound .operands .c, is .high) }
 
-  second-plain : (m : List ℕ) → eqb (nodeOf S k .kind) ITE ≡ false → secondOf S m k ≡ nodeOf S k .b
+  pub second-plain : (m : List ℕ) → eqb (nodeOf S k .kind) ITE ≡ false → secondOf S m k ≡ nodeOf S k .b
   unfolding secondOf
   second-plain m n = rw n (pick-false _ _ _ refl)
 

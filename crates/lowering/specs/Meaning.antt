@@ -6,6 +6,7 @@ use lib.Dec.{eqb}
 use lib.ListN.{getD}
 use Rattle.table.specs.declared.Node.{Node}
 use Rattle.table.specs.Kind.{divides}
+use Rattle.values.specs.Value.{divWord, remWord}
 use Rattle.values.specs.Eval.{offset}
 use Rattle.digits.specs.Digits.{digit}
 use Rattle.visits.specs.Claims.{Meaning}
@@ -30,11 +31,12 @@ dividend S x k = slotOf S x (nodeOf S k .a) 0
 abbrev pub divisor : Source → List ℕ → ℕ → ℕ
 divisor S x k = slotOf S x (nodeOf S k .b) 0
 
+-- the right quotient and remainder of a division are the values of divu and of rem
 abbrev pub meaning : Source → List ℕ → Meaning
 meaning S x =
     record {
       value = valueOf S x;
-      quotient = λ k. isOne (dividend S x k / divisor S x k);
-      remainder = λ k. isOne (dividend S x k % divisor S x k);
+      quotient = λ k. isOne (divWord (nodeOf S k .width) (dividend S x k) (divisor S x k));
+      remainder = λ k. isOne (remWord (dividend S x k) (divisor S x k));
       byZero = λ k. divides (nodeOf S k .kind) && eqb (divisor S x k) 0;
     }

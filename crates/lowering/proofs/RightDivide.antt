@@ -1,0 +1,221 @@
+-- The law of values of divu and rem.
+use mathlib.Core.Path.{_≡_, refl, ap, ap₂, sym, _∙_}
+use mathlib.Core.List.{List}
+use mathlib.Core.Logic.{_⊎_, inl, inr, _↔_}
+use mathlib.Core.Bool.{Bool, true, false, _&&_, _||_}
+use Prim.Native.Nat.{ℕ, zero, suc, _+_, _-_, _*_, _/_, _%_, _^_, _≤_, _<_}
+use native.Mathlib.Omega.{arith}
+use native.Mathlib.Decide.{decLt}
+use lib.Dec.{eqb}
+use lib.ListN.{length, getD}
+use borrow.Author.Tests.{eqb-true, eqb-false, ne-eqb}
+use Rattle.loops.specs.Loop.{pick, bit}
+use Rattle.loops.proofs.Loop.{by-pick, pick-true, pick-false, both, either}
+use Rattle.table.specs.declared.Node.{Node}
+use Rattle.table.specs.Kind.{INPUT, STATE, ITE, DIVU, REM, usesA, usesB, divides}
+use Rattle.table.specs.Node.{widthOf, given}
+use Rattle.table.specs.Ceiling.{divConstraints, constraintCeiling, nodeConstraints}
+use Rattle.table.proofs.Whole.{Even}
+use Rattle.values.specs.Value.{divWord, remWord}
+use Rattle.values.specs.Eval.{offset}
+use Rattle.values.proofs.ByKind.{at-divu, at-rem}
+use Rattle.netlist.specs.Record.{gate, gateAt, Room}
+use Rattle.netlist.specs.Kind.{free}
+use Rattle.netlist.specs.Net.{Net, Assign, Obeys}
+use Rattle.gates.proofs.Laws.{grows-refl}
+use Rattle.digits.specs.Digits.{Below, number, allKnown, knownNumber}
+use Rattle.digits.proofs.Numbers.{number-same, bit-eqb}
+use Rattle.digits.proofs.Words.{all-true}
+use Rattle.words.specs.Num.{num, blank}
+use Rattle.words.specs.Each.{Word, putBits, Put}
+use Rattle.words.proofs.NumLaws.{num-known, num-right, blank-long}
+use Rattle.words.proofs.EachLaws.{put-law}
+use Rattle.division.specs.Constraint.{consOf, conGate, conValue, ConRoom, Holds, Within}
+use Rattle.division.specs.Rows.{Checked}
+use Rattle.division.specs.Check.{Book, Divides, conCount}
+use Rattle.division.specs.Known.{divuOf, remOf, answerOf, knownWord, KnownLaw}
+use Rattle.division.specs.Divide as div
+use Rattle.division.specs.Divide.{divWords, freeWord, divideWords, DivLaw}
+use Rattle.visits.specs.Flow.{Core}
+use Rattle.visits.specs.Claims.{Is, Right, Under, Considered, Met, Operands, Ready, StepRight}
+use Rattle.visits.specs.Divide.{Divided, Division, Divide}
+use Rattle.visits.proofs.Plain.{plain-right}
+use Rattle.visits.proofs.Divide.{divide-right}
+use Rattle.visits.proofs.Digits.{division}
+use Rattle.lowering.specs.Source.{Source, nodeOf, wordsOf, wideOf, bitsOf, offOf, asksOf, wordAt, blockedOf, secondOf}
+use Rattle.lowering.specs.Own.{divideOwn}
+use Rattle.lowering.specs.Lower.{recipe}
+use Rattle.lowering.specs.Meaning.{slotOf, isOne, valueOf, dividend, divisor, meaning}
+use Rattle.lowering.proofs.MeaningPlaces.{Sheeted, wide-range, wide-word, words-word, wide-same, bits-all, word-bit, inside}
+use Rattle.lowering.proofs.Meaning.{Evaluated, workedOut, right-says, says-right, value-at}
+use Rattle.lowering.proofs.RightWords.{Operable}
+use Rattle.lowering.proofs.RightOperands.{slot-word, sound, a-is, b-is, a-right, b-right, second-plain}
+
+-- the laws of division by gates and of known operands
+abbrev pub ByGates : Type 0
+ByGates = (w node : ℕ) (n d : List ℕ) (s : Book) → w ≤ 64 → DivLaw w node n d s (divWords w node n d s)
+
+abbrev pub ByNumbers : Type 0
+ByNumbers = (quotient : Bool) (w : ℕ) (n d out : List ℕ) → w ≤ length out → KnownLaw quotient w n d out (knownWord quotient w n d out)
+
+-- a kind that divides has two operands, and is no ite
+by-kind : (P : ℕ → Type 0) (k : ℕ) → P DIVU → P REM → divides k ≡ true → P k
+by-kind P k p q =
+    either (eqb k DIVU) (eqb k REM) (P k) (λ e. rw (eqb-true k DIVU e) p) (λ e. rw (eqb-true k REM e) q)
+
+div-word : (v a d : ℕ) → eqb d 0 ≡ false → divWord v a d ≡ a / d
+unfolding divWord
+div-word v a d z = pick-false _ _ _ z
+
+rem-word : (a d : ℕ) → eqb d 0 ≡ false → remWord a d ≡ a % d
+unfolding remWord
+rem-word a d z = pick-false _ _ _ z
+
+-- a number is even or odd
+half : (n w : ℕ) → n < 2 * w → (j : ℕ) × (j < w) × ((n ≡ 2 * j) ⊎ (n ≡ 2 * j + 1))
+half n w h = (n / 2, omega arith, go (decLt (2 * (n / 2)) n))
+  where
+    go : Dec (2 * (n / 2) < n) → (n ≡ 2 * (n / 2)) ⊎ (n ≡ 2 * (n / 2) + 1)
+    go (yes q) = inr (omega arith)
+    go (no q) = inl (omega arith)
+
+bit-one : (b : Bool) → eqb (bit b) 1 ≡ b
+bit-one true = refl
+bit-one false = refl
+
+-- constraints that hold are met, and the other way where they are truth values
+holds-met : (e : Assign) (l : List ℕ) (a b : ℕ) → Holds e l a b → (i : ℕ) → a ≤ i → i < b → e (getD l (2 * i) 0) ≡ eqb (getD l (2 * i + 1) 0) 1
+unfolding Holds conGate conValue
+holds-met e l a b h i lo hi = sym (bit-one (e (getD l (2 * i) 0))) ∙ ap (λ z. eqb z 1) (h i lo hi)
+
+met-holds : (e : Assign) (l : List ℕ) (n a b : ℕ) → Within n l a b → ((i : ℕ) → a ≤ i → i < b → e (getD l (2 * i) 0) ≡ eqb (getD l (2 * i + 1) 0) 1) → Holds e l a b
+unfolding Holds Within conGate conValue
+met-holds e l n a b w h i lo hi = ap bit (h i lo hi) ∙ bit-eqb (getD l (2 * i + 1) 0) (w i lo hi .1)
+
+module _ {S : Source} {x : List ℕ} (v : Evaluated S x) {k : ℕ} (gates : ByGates) (numbers : ByNumbers) (h : divides (nodeOf S k .kind) ≡ true)
+    (z : Even (nodeOf S k .width) (widthOf (S .table) (nodeOf S k .a)) (widthOf (S .table) (nodeOf S k .b))) (s : Core) (ready : Ready (recipe S) k s)
+    (goes : blockedOf S (s .map) k ≡ false) where
+  abbrev d : Node
+  d = nodeOf S k
+
+  abbrev w : ℕ
+  w = wideOf S k
+
+  abbrev A : List ℕ
+  A = wordAt S (s .map) (d .a) 0
+
+  abbrev B : List ℕ
+  B = wordAt S (s .map) (d .b) 0
+
+  abbrev quotient : Bool
+  quotient = eqb (d .kind) DIVU
+
+  is : Is (recipe S) k
+  is = ready .is
+
+  ua : 1 ≤ d .a
+  ua = sound v is .operands .a-used (by-kind (λ n. usesA n ≡ true) (d .kind) refl refl h)
+
+  ub : usesB (d .kind) ≡ true
+  ub = by-kind (λ n. usesB n ≡ true) (d .kind) refl refl h
+
+  ni : eqb (d .kind) ITE ≡ false
+  ni = by-kind (λ n. eqb n ITE ≡ false) (d .kind) refl refl h
+
+  no-given : given d ≡ false
+  no-given = by-kind (λ n. (eqb n INPUT || (eqb n STATE && eqb (d .a) 0)) ≡ false) (d .kind) refl refl h
+
+  small : w ≤ 64
+  small = wide-range S (v .clear) k .1
+
+  wa : wideOf S (d .a) ≡ w
+  wa = wide-same S (d .a) k (z .left)
+
+  wb : wideOf S (d .b) ≡ w
+  wb = wide-same S (d .b) k (z .right)
+
+  words-one : wordsOf S k ≡ 1
+  words-one = words-word S k (z .word)
+
+  bits : bitsOf S k ≡ w
+  bits = bits-all S k (is .low) ∙ ap (λ n. n * w) words-one ∙ one-times w
+    where
+      one-times : (n : ℕ) → 1 * n ≡ n
+      one-times n = omega arith
+
+  -- the operands' bits say the dividend and the divisor
+  a-says : (e : Assign) → Operable S x k (s .map) e (s .map) → num e A w ≡ dividend S x k
+  a-says e o = ap (λ n. num e A n) (sym wa) ∙ right-says v (a-is v is ua) {i = 0} (omega (arith, words-word S (d .a) (omega (arith, z .word, z .left)))) e (s .map) (a-right v is (s .map) (s .map) e o ua)
+
+  b-says : (e : Assign) → Operable S x k (s .map) e (s .map) → num e B w ≡ divisor S x k
+  b-says e o = ap (λ n. num e B n) (sym wb) ∙ right-says v (b-is v is ub) {i = 0} (omega (arith, words-word S (d .b) (omega (arith, z .word, z .right)))) e (s .map) (b-right v is (s .map) (s .map) e o ni ub)
+
+  -- the node's value
+  divu-value : d .kind ≡ DIVU → slotOf S x k 0 ≡ divWord (d .width) (dividend S x k) (divisor S x k)
+  divu-value e =
+      v .made k 0 is (omega (arith, words-one)) no-given
+      ∙ (at-divu (S .addrs) d x (offset (S .table) (S .addrs) (d .a)) (offset (S .table) (S .addrs) (d .b)) (offset (S .table) (S .addrs) (d .c)) _ 0 e
+      ∙ sym (ap₂ (divWord (d .width)) (slot-word S x (d .a)) (slot-word S x (d .b))))
+
+  rem-value : d .kind ≡ REM → slotOf S x k 0 ≡ remWord (dividend S x k) (divisor S x k)
+  rem-value e =
+      v .made k 0 is (omega (arith, words-one)) no-given
+      ∙ (at-rem (S .addrs) d x (offset (S .table) (S .addrs) (d .a)) (offset (S .table) (S .addrs) (d .b)) (offset (S .table) (S .addrs) (d .c)) _ 0 e
+      ∙ sym (ap₂ remWord (slot-word S x (d .a)) (slot-word S x (d .b))))
+
+  slot-is : slotOf S x k 0 ≡ pick quotient (divWord (d .width) (dividend S x k) (divisor S x k)) (remWord (dividend S x k) (divisor S x k))
+  slot-is =
+      either (eqb (d .kind) DIVU) (eqb (d .kind) REM) _
+      (λ e. divu-value (eqb-true (d .kind) DIVU e) ∙ sym (pick-true _ _ _ e))
+      (λ e. rem-value (eqb-true (d .kind) REM e) ∙ sym (pick-false _ _ _ (ap (λ n. eqb n DIVU) (eqb-true (d .kind) REM e))))
+      h
+
+  value-bit : (j : ℕ) → j < w → valueOf S x k j ≡ isOne (slotOf S x k 0) j
+  value-bit j l = let q : 0 * w + j ≡ j = omega arith in ap (valueOf S x k) (sym q) ∙ value-at S x k 0 j l
+
+  -- the word that is made stands in its place
+  abbrev ended : Checked → Core
+  ended c = record { net = c .net; cons = c .cons .list; nc = c .cons .m; map = putBits (offOf S k) (c .out) w (s .map); stop = s .stop }
+
+  placed : (out : List ℕ) → Put (offOf S k) out (s .map) w (putBits (offOf S k) out w (s .map))
+  placed out = put-law (offOf S k) out (s .map) w (omega (arith, inside S k (is .low) (is .high), ready .mapped, bits))
+
+  by-zero : (b : Bool) → eqb (divisor S x k) 0 ≡ b → meaning S x .byZero k ≡ b
+  by-zero b e = rw (h, e)
+
+  -- known operands
+  known-nonzero : allKnown w B ≡ true → eqb (knownNumber w B) 0 ≡ false
+  unfolding blockedOf
+  known-nonzero q =
+      let f : (divides (d .kind) && (allKnown w B && eqb (knownNumber w B) 0)) ≡ false = ap (λ n. divides (d .kind) && (allKnown n B && eqb (knownNumber n B) 0)) (sym wb) ∙ goes in
+      rw (h, q) at f
+
+  abbrev known-word : List ℕ
+  known-word = knownWord quotient w A B blank
+
+  known-says : (e : Assign) → Obeys (s .net) e → Below 2 A w → Below 2 B w → Operable S x k (s .map) e (s .map) → num e known-word w ≡ slotOf S x k 0
+  unfolding divuOf remOf divWord remWord
+  known-says e ob ka kb o =
+      let L = numbers quotient w A B blank (omega (arith, small, blank-long)) in
+      let q : w ≡ d .width = wide-word S k (z .word) in
+      L .value (s .net) e ob ka kb
+      ∙ (ap₂ (λ a b. answerOf quotient w a b) (a-says e o) (b-says e o)
+      ∙ (ap (λ n. pick quotient (divuOf n (dividend S x k) (divisor S x k)) (remOf (dividend S x k) (divisor S x k))) q
+      ∙ sym slot-is))
+
+  known-right : (allKnown w A && allKnown w B) ≡ true → StepRight (recipe S) (meaning S x) k s (ended (record { net = s .net; cons = consOf (s .cons) (s .nc); out = known-word }))
+  known-right q =
+      let p = both (allKnown w A) (allKnown w B) q in
+      plain-right
+      (record {
+        asks = refl;
+        only = λ room g lo hi fr. absurd (omega arith);
+        divides = λ e ce o.
+            by-zero false
+            (ap (λ n. eqb n 0) (sym (b-says e o) ∙ num-known (s .net) e B w (ce .obeys) (all-true B w (p .1))) ∙ known-nonzero (p .1));
+        right = λ e ce o j l.
+            let lt : j < w = omega (arith, bits) in
+            ap e (placed known-word .there j lt)
+            ∙ (num-right e known-word w (slotOf S x k 0) (v .range k 0 is (omega (arith, words-one))) (known-says e (ce .obeys) (all-true A w (p .0)) (all-true B w (p .1)) o) j lt
+            ∙ sym (value-bit j lt));
+      })
