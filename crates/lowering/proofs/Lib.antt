@@ -9,3 +9,4 @@ pub mod RightChoice
 pub mod RightRead
 pub mod RightWrite
 pub mod RightDivide
+pub mod RightOwn

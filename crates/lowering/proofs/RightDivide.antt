@@ -3,12 +3,12 @@ use mathlib.Core.Path.{_≡_, refl, ap, ap₂, sym, _∙_}
 use mathlib.Core.List.{List}
 use mathlib.Core.Logic.{_⊎_, inl, inr, _↔_}
 use mathlib.Core.Bool.{Bool, true, false, _&&_, _||_}
-use Prim.Native.Nat.{ℕ, zero, suc, _+_, _-_, _*_, _/_, _%_, _^_, _≤_, _<_}
+use Prim.Native.Nat.{ℕ, zero, _+_, _-_, _*_, _/_, _%_, _^_, _≤_, _<_}
 use native.Mathlib.Omega.{arith}
 use native.Mathlib.Decide.{decLt}
 use lib.Dec.{eqb}
 use lib.ListN.{length, getD}
-use borrow.Author.Tests.{eqb-true, eqb-false, ne-eqb}
+use borrow.Author.Tests.{eqb-true, ne-eqb}
 use Rattle.loops.specs.Loop.{pick, bit}
 use Rattle.loops.proofs.Loop.{by-pick, pick-true, pick-false, both, either}
 use Rattle.table.specs.declared.Node.{Node}
@@ -19,15 +19,14 @@ use Rattle.table.proofs.Whole.{Even}
 use Rattle.values.specs.Value.{divWord, remWord}
 use Rattle.values.specs.Eval.{offset}
 use Rattle.values.proofs.ByKind.{at-divu, at-rem}
-use Rattle.netlist.specs.Record.{gate, gateAt, Room}
+use Rattle.netlist.specs.Record.{gateAt, Room}
 use Rattle.netlist.specs.Kind.{free}
-use Rattle.netlist.specs.Net.{Net, Assign, Obeys}
-use Rattle.gates.proofs.Laws.{grows-refl}
+use Rattle.netlist.specs.Net.{Assign, Obeys}
 use Rattle.digits.specs.Digits.{Below, number, allKnown, knownNumber}
 use Rattle.digits.proofs.Numbers.{number-same, bit-eqb}
 use Rattle.digits.proofs.Words.{all-true}
 use Rattle.words.specs.Num.{num, blank}
-use Rattle.words.specs.Each.{Word, putBits, Put}
+use Rattle.words.specs.Each.{putBits, Put}
 use Rattle.words.proofs.NumLaws.{num-known, num-right, blank-long}
 use Rattle.words.proofs.EachLaws.{put-law}
 use Rattle.division.specs.Constraint.{consOf, conGate, conValue, ConRoom, Holds, Within}
@@ -37,8 +36,8 @@ use Rattle.division.specs.Known.{divuOf, remOf, answerOf, knownWord, KnownLaw}
 use Rattle.division.specs.Divide as div
 use Rattle.division.specs.Divide.{divWords, freeWord, divideWords, DivLaw}
 use Rattle.visits.specs.Flow.{Core}
-use Rattle.visits.specs.Claims.{Is, Right, Under, Considered, Met, Operands, Ready, StepRight}
-use Rattle.visits.specs.Divide.{Divided, Division, Divide}
+use Rattle.visits.specs.Claims.{Is, Under, Considered, Met, Ready, StepRight}
+use Rattle.visits.specs.Divide.{Divided, Division}
 use Rattle.visits.proofs.Plain.{plain-right}
 use Rattle.visits.proofs.Divide.{divide-right}
 use Rattle.visits.proofs.Digits.{division}
@@ -46,8 +45,8 @@ use Rattle.lowering.specs.Source.{Source, nodeOf, wordsOf, wideOf, bitsO
 use Rattle.lowering.specs.Own.{divideOwn}
 use Rattle.lowering.specs.Lower.{recipe}
 use Rattle.lowering.specs.Meaning.{slotOf, isOne, valueOf, dividend, divisor, meaning}
-use Rattle.lowering.proofs.MeaningPlaces.{Sheeted, wide-range, wide-word, words-word, wide-same, bits-all, word-bit, inside}
-use Rattle.lowering.proofs.Meaning.{Evaluated, workedOut, right-says, says-right, value-at}
+use Rattle.lowering.proofs.MeaningPlaces.{wide-range, wide-word, words-word, wide-same, bits-all, word-bit, inside}
+use Rattle.lowering.proofs.Meaning.{Evaluated, right-says, value-at}
 use Rattle.lowering.proofs.RightWords.{Operable}
 use Rattle.lowering.proofs.RightOperands.{slot-word, sound, a-is, b-is, a-right, b-right, second-plain}
 
@@ -219,3 +218,125 @@ module _ {S : Source} {x : List ℕ} (v : Evaluated S x) {k : ℕ} (gates : ByGa
             ∙ (num-right e known-word w (slotOf S x k 0) (v .range k 0 is (omega (arith, words-one))) (known-says e (ce .obeys) (all-true A w (p .0)) (all-true B w (p .1)) o) j lt
             ∙ sym (value-bit j lt));
       })
+
+  -- by gates: digit j of the quotient and of the remainder
+  abbrev quo : ℕ → ℕ
+  quo j = s .net .n + 2 * j
+
+  abbrev rem : ℕ → ℕ
+  rem j = s .net .n + 2 * j + 1
+
+  abbrev book : Book
+  book = record { net = s .net; cons = consOf (s .cons) (s .nc) }
+
+  abbrev made : div.Divided
+  made = divWords w k A B book
+
+  L : DivLaw w k A B book made
+  L = gates w k A B book small
+
+  abbrev word : List ℕ
+  word = putBits 0 (pick quotient (made .quot) (made .rem)) w blank
+
+  abbrev t : Core
+  t = ended (record { net = made .book .net; cons = made .book .cons; out = word })
+
+  asks : asksOf S k ≡ conCount w
+  unfolding asksOf nodeConstraints constraintCeiling divConstraints
+  asks =
+      let q : k - 1 + 1 ≡ k = omega (arith, is .low) in
+      let u : w ≡ d .width = wide-word S k (z .word) in
+      pick-false _ _ _ (ne-eqb k 0 (λ y. omega (arith, is .low))) ∙ (rw q (pick-true _ _ _ h) ∙ ap conCount (sym u))
+
+  con-room : ConRoom (made .book .cons)
+  con-room = omega (arith, ready .roomAsks, L .more .count, L .more .long, asks)
+
+  -- the operands' bits are in the net
+  under-word : (y : ℕ) → 1 ≤ y → wordsOf S y ≡ 1 → wideOf S y ≡ w → Under (recipe S) (s .net .n) (s .map) y → Below (s .net .n) (wordAt S (s .map) y 0) w
+  under-word y ly one q u j l =
+      let b : bitsOf S y ≡ 1 * wideOf S y = bits-all S y ly ∙ ap (λ n. n * wideOf S y) one in
+      omega (arith, word-bit S (s .map) y 0 j (omega arith), u (0 * wideOf S y + j) (omega arith))
+
+  a-below : Below (s .net .n) A w
+  a-below = under-word (d .a) ua (words-word S (d .a) (omega (arith, z .word, z .left))) wa (ready .below .first (λ q. omega (arith, ua)))
+
+  b-below : Below (s .net .n) B w
+  b-below =
+      let q : secondOf S (s .map) k ≡ d .b = second-plain v is (s .map) ni in
+      let low : 1 ≤ d .b = b-is v is ub .low in
+      let u : Under (recipe S) (s .net .n) (s .map) (secondOf S (s .map) k) = ready .below .second (λ y. omega arith) in
+      under-word (d .b) low (words-word S (d .b) (omega (arith, z .word, z .right))) wb (rw q at u)
+
+  -- what the constraints say is a quotient and a remainder of the values
+  divided : (e : Assign) → Operable S x k (s .map) e (s .map)
+      → Divides w (made .quot) (made .rem) A B e ↔ Divided (dividend S x k) (divisor S x k) (number (λ j. e (quo j)) w) (number (λ j. e (rem j)) w)
+  divided e o =
+      let p : num e (made .quot) w ≡ number (λ j. e (quo j)) w = number-same (λ j. e (getD (made .quot) j 0)) (λ j. e (quo j)) w (λ j l. ap e (L .quots j l)) in
+      let q : num e (made .rem) w ≡ number (λ j. e (rem j)) w = number-same (λ j. e (getD (made .rem) j 0)) (λ j. e (rem j)) w (λ j l. ap e (L .rems j l)) in (
+        λ y. record { equal = rw (p, q, a-says e o, b-says e o) at (y .0); less = rw (q, b-says e o) at (y .1) },
+        λ y. (rw (p, q, a-says e o, b-says e o) (y .equal), rw (q, b-says e o) (y .less)),
+      )
+
+  met : (e : Assign) → Considered (meaning S x) (made .book .net) e → Operable S x k (s .map) e (s .map)
+      → Met t (s .nc) e ↔ Divided (dividend S x k) (divisor S x k) (number (λ j. e (quo j)) w) (number (λ j. e (rem j)) w)
+  met e ce o =
+      let y = L .holds e (ce .obeys) con-room in
+      let within = L .within (ce .obeys .room) con-room a-below b-below (ready .formed) in (
+        λ m. divided e o .0 (y .0 (met-holds e (made .book .cons .list) (made .book .net .n) (s .nc) (made .book .cons .m) within m)),
+        λ q. holds-met e (made .book .cons .list) (s .nc) (made .book .cons .m) (y .1 (divided e o .1 q)),
+      )
+
+  only : Room (made .book .net .gates) (made .book .net .n) → (g : ℕ) → s .net .n ≤ g → g < made .book .net .n → free (gateAt (made .book .net .gates) g .kind) ≡ true
+      → (j : ℕ) × (j < w) × ((g ≡ quo j) ⊎ (g ≡ rem j))
+  only room g lo hi fr = go (decLt g (s .net .n + 2 * w))
+    where
+      go : Dec (g < s .net .n + 2 * w) → (j : ℕ) × (j < w) × ((g ≡ quo j) ⊎ (g ≡ rem j))
+      go (no q) = absurd (let y : _≡_ {A = ℕ} 0 1 = cc (L .bound room g (omega arith) hi) in omega arith)
+      go (yes q) =
+          let y = half (g - s .net .n) w (omega arith) in
+          (y .0, y .1, side (y .0) (y .2))
+        where
+          side : (j : ℕ) → (g - s .net .n ≡ 2 * j) ⊎ (g - s .net .n ≡ 2 * j + 1) → (g ≡ quo j) ⊎ (g ≡ rem j)
+          side j (inl p) = inl (omega arith)
+          side j (inr p) = inr (omega arith)
+
+  -- the node's bits are the gates asked for
+  chosen : (e : Assign) → ((j : ℕ) → j < w → e (quo j) ≡ meaning S x .quotient k j) → ((j : ℕ) → j < w → e (rem j) ≡ meaning S x .remainder k j) → (j : ℕ) → j < w → e (getD word j 0) ≡ valueOf S x k j
+  chosen e quos rems j l =
+      let p : Put 0 (pick quotient (made .quot) (made .rem)) blank w word = put-law 0 (pick quotient (made .quot) (made .rem)) blank w (omega (arith, small, blank-long)) in
+      let f : 0 + j ≡ j = omega arith in
+      let q : getD word j 0 ≡ getD (pick quotient (made .quot) (made .rem)) j 0 = rw f at (p .there j l) in
+      ap e q ∙ (side quotient ∙ sym (value-bit j l ∙ ap (λ n. isOne n j) slot-is))
+    where
+      dv : ℕ
+      dv = divWord (d .width) (dividend S x k) (divisor S x k)
+
+      rv : ℕ
+      rv = remWord (dividend S x k) (divisor S x k)
+
+      side : (b : Bool) → e (getD (pick b (made .quot) (made .rem)) j 0) ≡ isOne (pick b dv rv) j
+      side true = rw (pick-true {A = List ℕ} true (made .quot) (made .rem) refl, pick-true {A = ℕ} true dv rv refl) (ap e (L .quots j l) ∙ quos j l)
+      side false = rw (pick-false {A = List ℕ} false (made .quot) (made .rem) refl, pick-false {A = ℕ} false dv rv refl) (ap e (L .rems j l) ∙ rems j l)
+
+  means : (b : Bool) → eqb (divisor S x k) 0 ≡ b → Division (meaning S x) k w (dividend S x k) (divisor S x k)
+  means true q = record { zero = λ y. eqb-true (divisor S x k) 0 q; solves = λ y. absurd (let c : _≡_ {A = ℕ} 0 1 = cc (by-zero true q) in omega arith) }
+  means false q =
+      let r : dividend S x k < 2 ^ w = rw wa at (v .range (d .a) 0 (a-is v is ua) (omega (arith, words-word S (d .a) (omega (arith, z .word, z .left))))) in
+      division (meaning S x) k w (dividend S x k) (divisor S x k) r (by-zero (eqb (divisor S x k) 0) refl)
+      (λ j l. ap (λ n. isOne n j) (div-word (d .width) (dividend S x k) (divisor S x k) q))
+      (λ j l. ap (λ n. isOne n j) (rem-word (dividend S x k) (divisor S x k) q))
+
+  free-right : StepRight (recipe S) (meaning S x) k s t
+  free-right =
+      divide-right quo rem (means (eqb (divisor S x k) 0) refl)
+      (record {
+        quoAt = λ room j l. (omega arith, omega (arith, L .room), L .gates room j l .0);
+        remAt = λ room j l. (omega arith, omega (arith, L .room), L .gates room j l .1);
+        only = only;
+        met = met;
+        right = λ e quos rems j l. ap e (placed word .there j (omega (arith, bits))) ∙ chosen e quos rems j (omega (arith, bits));
+      })
+
+  pub division-right : StepRight (recipe S) (meaning S x) k s (divideOwn S k s)
+  unfolding divideOwn divideWords freeWord
+  division-right = by-pick (λ (c : Checked). StepRight (recipe S) (meaning S x) k s (ended c)) (allKnown w A && allKnown w B) _ _ known-right (λ _. free-right)
