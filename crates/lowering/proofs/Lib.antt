@@ -1,3 +1,4 @@
 pub mod Places
 pub mod ShapeLaws
 pub mod WordLaws
+pub mod KindLaws
