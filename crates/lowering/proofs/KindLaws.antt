@@ -7,10 +7,16 @@ use native.Mathlib.Omega.{arith}
 use native.Mathlib.Decide.{decLt}
 use lib.ListN.{length, getD, set, length-set}
 use lib.Seq.{getD-set-same}
+use Rattle.loops.specs.Loop.{iter}
+use Rattle.loops.proofs.Loop.{iter-inv}
+use Rattle.netlist.specs.Record.{Room}
+use Rattle.netlist.specs.Kind.{free}
 use Rattle.netlist.specs.Net.{Net}
-use Rattle.gates.specs.Made.{MadeBit}
+use Rattle.gates.specs.Made.{MadeBit, added, gateInputBit}
+use Rattle.gates.specs.Given.{GivenLaw}
 use Rattle.gates.specs.Law.{Grows, Ext, Formed, BitLaw}
-use Rattle.gates.proofs.Laws.{grows-refl, grows-weaken}
+use Rattle.gates.proofs.Laws.{grows-refl, grows-weaken, grows-trans, room-back}
+use Rattle.gates.proofs.GivenLaws.{given-law}
 use Rattle.gates.proofs.FoldLaws.{not-cost}
 use Rattle.digits.specs.Digits.{Below, putDigits}
 use Rattle.digits.proofs.Numbers.{digit-lt}
@@ -25,13 +31,13 @@ use Rattle.words.specs.Eq.{eqWords, eqCost}
 use Rattle.words.specs.Mul.{mulWords, mulCost, MulLaw}
 use Rattle.words.proofs.NumLaws.{blank-long, blank-at}
 use Rattle.words.proofs.Sums.{sum-most}
-use Rattle.words.proofs.EachLaws.{each-law, put-law}
+use Rattle.words.proofs.EachLaws.{each-law, put-law, below-set, below-more}
 use Rattle.words.proofs.AddLaws.{AddLaw, add-law, cost-three}
 use Rattle.words.proofs.SubLaws.{sub-law, sub-four, ult-law}
 use Rattle.words.proofs.EqLaws.{eq-law, eq-three}
 use Rattle.words.proofs.MulLaws.{mul-law}
 use Rattle.memory.specs.Read.{readWords, ReadLaw}
-use Rattle.lowering.specs.Own.{asIs, fresh, ofChain, ofBit}
+use Rattle.lowering.specs.Own.{asIs, fresh, ofChain, ofBit, inputStep}
 use Rattle.lowering.proofs.WordLaws.{WordMade}
 
 -- two words of v bits are below b
@@ -146,3 +152,37 @@ read-made s n w addrs mem adr h =
       formed = λ rm i f. h .formed rm (i .0) (i .1) f;
       known = λ i. let q = h .known (i .1) in (ap (λ (t : Net). t .n) (q .0), q .1 (i .0));
     }
+
+-- an input: one InputBit a bit
+pub record InputsMade (s : Net) (i : ℕ) (y : Word) : Type 0 where
+  pub grows : Grows s (y .net) i
+  pub long : length (y .out) ≡ 65
+  pub formed : Room (y .net .gates) (y .net .n) → Formed s → Formed (y .net) × Below (y .net .n) (y .out) i
+
+is-free : free 2 ≡ true
+unfolding free
+is-free = refl
+
+input-more : (s : Net) (k from i : ℕ) (x : Word) → i < 65 → InputsMade s i x → InputsMade s (suc i) (inputStep k from i x)
+unfolding inputStep
+input-more s k from i x lt h =
+    record {
+      grows = grows-weaken s (m .net) (i + 1) (suc i) (omega arith) (grows-trans s (x .net) (m .net) i 1 (h .grows) (g .grows));
+      long = length-set (x .out) i (m .bit) ∙ h .long;
+      formed = λ rm f.
+          let q : Formed (x .net) × Below (x .net .n) (x .out) i = h .formed (room-back (x .net) (m .net) 1 (g .grows) rm) f in (
+            g .formed rm (q .0),
+            below-set (m .net .n) (x .out) i (m .bit) (omega (arith, h .long)) (below-more (x .net .n) (m .net .n) (x .out) i (g .grows .from) (q .1)) (omega (arith, g .bit, g .count)),
+          );
+    }
+  where
+    m : MadeBit
+    m = added (x .net) (gateInputBit k (from + i))
+
+    g : GivenLaw (x .net) (gateInputBit k (from + i)) m
+    g = given-law (x .net) 2 k (from + i) is-free
+
+pub inputs-made : (s : Net) (k from w : ℕ) → w ≤ 65 → InputsMade s w (iter w (inputStep k from) (fresh s))
+inputs-made s k from w small =
+    iter-inv (InputsMade s) (inputStep k from) (fresh s) w (record { grows = grows-refl s 0; long = blank-long; formed = λ rm f. (f, λ i l. absurd (omega arith)) })
+    (λ i x lt h. input-more s k from i x (omega arith) h)

@@ -2,3 +2,5 @@ pub mod Places
 pub mod ShapeLaws
 pub mod WordLaws
 pub mod KindLaws
+pub mod StepLaws
+pub mod ShareLaws
