@@ -4,3 +4,4 @@ pub mod WordLaws
 pub mod KindLaws
 pub mod StepLaws
 pub mod ShareLaws
+pub mod MemoryLaws

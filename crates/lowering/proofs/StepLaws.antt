@@ -11,7 +11,7 @@ use Rattle.loops.specs.Loop.{pick}
 use Rattle.loops.proofs.Loop.{by-pick, either}
 use Rattle.table.specs.declared.Node.{Node}
 use Rattle.table.specs.declared.Fault.the-variants.{Clear}
-use Rattle.table.specs.Kind.{CONST, INPUT, STATE, NOT, BAD, AND, EXT, EQ, ADD, ITE, SUB, ULT, MUL, DIVU, REM, READ, WRITE, usesA, usesB}
+use Rattle.table.specs.Kind.{CONST, INPUT, STATE, NOT, BAD, AND, EXT, EQ, ADD, ITE, SUB, ULT, MUL, DIVU, REM, READ, WRITE, usesA, usesB, usesC}
 use Rattle.table.specs.Node.{nodes, nodeAt, widthOf, given}
 use Rattle.table.specs.Sheet.{tableFault}
 use Rattle.table.proofs.Whole.{Sound, Even, Compared, within, fine}
@@ -76,6 +76,9 @@ module _ (S : Source) (clear : tableFault (S .table) (S .addrs) (S .word) ≡ Cl
   abbrev B : ℕ
   B = nodeOf S k .b
 
+  abbrev C : ℕ
+  C = nodeOf S k .c
+
   pub fits : offOf S k + wordsOf S k * wideOf S k ≤ length (s .map)
   fits = omega (arith, off-inside S k (is .low) (is .high), bits-words S k (is .low))
 
@@ -101,6 +104,10 @@ module _ (S : Source) (clear : tableFault (S .table) (S .addrs) (S .word) ≡ Cl
   pub word-b : (b : ℕ) (m : List ℕ) → usesB (nodeOf S k .kind) ≡ true → (nodeOf S k .kind ≡ ITE → ⊥) → 1 ≤ widthOf (S .table) B → Till (offOf S k) (s .map) m → Reads S k s b
       → Below b (wordAt S m B 0) (wideOf S B)
   word-b b m u ne word till o = operand B b m (node .operands .b-used u) (node .operands .b) word till (reads-b S k s b o ne (node .operands .b-used u))
+
+  pub word-c : (b : ℕ) (m : List ℕ) → usesC (nodeOf S k .kind) ≡ true → (nodeOf S k .kind ≡ ITE → ⊥) → 1 ≤ widthOf (S .table) C → Till (offOf S k) (s .map) m → Reads S k s b
+      → Below b (wordAt S m C 0) (wideOf S C)
+  word-c b m u ne word till o = operand C b m (node .operands .c-used u) (node .operands .c) word till (reads-c S k s b o ne (node .operands .c-used u))
 
   -- two words of one width
   both-words : (b : ℕ) (m : List ℕ) → usesB (nodeOf S k .kind) ≡ true → (nodeOf S k .kind ≡ ITE → ⊥) → 1 ≤ widthOf (S .table) A → widthOf (S .table) B ≡ widthOf (S .table) A

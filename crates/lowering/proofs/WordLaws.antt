@@ -57,16 +57,16 @@ made-owes {S} {k} {s} {x} law inn =
     }
 
 -- after i words of the node k, from s to x: c gates a word at most, and the words in their places
-record Made (S : Source) (k c : ℕ) (s : Core) (i : ℕ) (x : Core) : Type 0 where
-  grows : Grows (s .net) (x .net) (i * c)
-  cons : x .cons ≡ s .cons
-  count : x .nc ≡ s .nc
-  stop : x .stop ≡ s .stop
-  long : length (x .map) ≡ length (s .map)
-  below : Till (offOf S k) (s .map) (x .map)
-  above : (p : ℕ) → offOf S k + i * wideOf S k ≤ p → getD (x .map) p 0 ≡ getD (s .map) p 0
-  formed : Ready (recipe S) k s → Room (x .net .gates) (x .net .n) → Formed (x .net) × ((j : ℕ) → j < i * wideOf S k → getD (x .map) (offOf S k + j) 0 < x .net .n)
-  known : recipe S .given k ≡ false → Reads S k s 2 → (x .net .n ≡ s .net .n) × ((j : ℕ) → j < i * wideOf S k → getD (x .map) (offOf S k + j) 0 < 2)
+pub record Made (S : Source) (k c : ℕ) (s : Core) (i : ℕ) (x : Core) : Type 0 where
+  pub grows : Grows (s .net) (x .net) (i * c)
+  pub cons : x .cons ≡ s .cons
+  pub count : x .nc ≡ s .nc
+  pub stop : x .stop ≡ s .stop
+  pub long : length (x .map) ≡ length (s .map)
+  pub below : Till (offOf S k) (s .map) (x .map)
+  pub above : (p : ℕ) → offOf S k + i * wideOf S k ≤ p → getD (x .map) p 0 ≡ getD (s .map) p 0
+  pub formed : Ready (recipe S) k s → Room (x .net .gates) (x .net .n) → Formed (x .net) × ((j : ℕ) → j < i * wideOf S k → getD (x .map) (offOf S k + j) 0 < x .net .n)
+  pub known : recipe S .given k ≡ false → Reads S k s 2 → (x .net .n ≡ s .net .n) × ((j : ℕ) → j < i * wideOf S k → getD (x .map) (offOf S k + j) 0 < 2)
 
 -- one word more, y at its place, under a number b
 module _ (off i w : ℕ) (m : List ℕ) (out : List ℕ) (b : ℕ) (fits : off + i * w + w ≤ length m) where
@@ -120,7 +120,7 @@ module _ (S : Source) (k c : ℕ) (s : Core) (f : ℕ → Core → Word) (fits :
       p : Put (offOf S k + i * w) (y .out) (x .map) w (putBits (offOf S k + i * w) (y .out) w (x .map))
       p = put-law (offOf S k + i * w) (y .out) (x .map) w room
 
-  all-made : Made S k c s (wordsOf S k) (eachWord S k f s)
+  pub all-made : Made S k c s (wordsOf S k) (eachWord S k f s)
   all-made =
       iter-inv (Made S k c s) (wordStep S k f) s (wordsOf S k)
       (record {
