@@ -5,3 +5,4 @@ pub mod KindLaws
 pub mod StepLaws
 pub mod ShareLaws
 pub mod MemoryLaws
+pub mod DivisionLaws

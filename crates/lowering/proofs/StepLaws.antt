@@ -110,7 +110,7 @@ module _ (S : Source) (clear : tableFault (S .table) (S .addrs) (S .word) ≡ Cl
   word-c b m u ne word till o = operand C b m (node .operands .c-used u) (node .operands .c) word till (reads-c S k s b o ne (node .operands .c-used u))
 
   -- two words of one width
-  both-words : (b : ℕ) (m : List ℕ) → usesB (nodeOf S k .kind) ≡ true → (nodeOf S k .kind ≡ ITE → ⊥) → 1 ≤ widthOf (S .table) A → widthOf (S .table) B ≡ widthOf (S .table) A
+  pub both-words : (b : ℕ) (m : List ℕ) → usesB (nodeOf S k .kind) ≡ true → (nodeOf S k .kind ≡ ITE → ⊥) → 1 ≤ widthOf (S .table) A → widthOf (S .table) B ≡ widthOf (S .table) A
       → Till (offOf S k) (s .map) m → Reads S k s b → Both (wordAt S m A 0) (wordAt S m B 0) (wideOf S A) b
   both-words b m u ne word same till o =
       let e : wideOf S B ≡ wideOf S A = word-wide S B (omega arith) ∙ same ∙ sym (word-wide S A word) in
