@@ -6,3 +6,4 @@ pub mod StepLaws
 pub mod ShareLaws
 pub mod MemoryLaws
 pub mod DivisionLaws
+pub mod OwnLaws
