@@ -7,3 +7,4 @@ pub mod ShareLaws
 pub mod MemoryLaws
 pub mod DivisionLaws
 pub mod OwnLaws
+pub mod StartLaws
