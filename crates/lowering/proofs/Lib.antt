@@ -8,3 +8,4 @@ pub mod MemoryLaws
 pub mod DivisionLaws
 pub mod OwnLaws
 pub mod StartLaws
+pub mod SmallLaws
