@@ -22,7 +22,8 @@ use Rattle.visits.specs.Claims.{Is, Right}
 use Rattle.lowering.specs.Source.{Source, nodeOf, wordsOf, wideOf, wordAt}
 use Rattle.lowering.specs.Lower.{recipe}
 use Rattle.lowering.specs.Meaning.{slotOf, isOne, valueOf, meaning}
-use Rattle.lowering.proofs.MeaningPlaces.{Sheeted, bits-all, word-bit, place-in}
+use Rattle.lowering.proofs.Places.{bits-words}
+use Rattle.lowering.proofs.MeaningPlaces.{Sheeted, word-bit, place-in}
 
 -- slot j of node k, worked out from the slots of its operands
 abbrev pub workedOut : Source → List ℕ → ℕ → ℕ → ℕ
@@ -83,7 +84,7 @@ module _ {S : Source} {x : List ℕ} (v : Evaluated S x) {k : ℕ} (is : Is (rec
   pub right-says : (m : List ℕ) → Right (recipe S) (meaning S x) e m k → num e (wordAt S m k i) (wideOf S k) ≡ slotOf S x k i
   right-says m r =
       right-num e (wordAt S m k i) (wideOf S k) (slotOf S x k i) (v .range k i is lt)
-      (λ j h. ap e (word-bit S m k i j h) ∙ (r (i * wideOf S k + j) (rw (bits-all S k (is .low)) (place-in (wideOf S k) (wordsOf S k) i j lt h)) ∙ value-at S x k i j h))
+      (λ j h. ap e (word-bit S m k i j h) ∙ (r (i * wideOf S k + j) (rw (bits-words S k (is .low)) (place-in (wideOf S k) (wordsOf S k) i j lt h)) ∙ value-at S x k i j h))
 
   -- and bits that say a word's slot are right
   pub says-right : (out : List ℕ) → num e out (wideOf S k) ≡ slotOf S x k i → (j : ℕ) → j < wideOf S k → e (getD out j 0) ≡ valueOf S x k (i * wideOf S k + j)

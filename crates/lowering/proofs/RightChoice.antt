@@ -28,7 +28,9 @@ use Rattle.lowering.specs.Source.{Source, nodeOf, wordsOf, wideOf, wordA
 use Rattle.lowering.specs.Own.{fresh, shareWord, chooseWord}
 use Rattle.lowering.specs.Lower.{recipe}
 use Rattle.lowering.specs.Meaning.{slotOf, meaning}
-use Rattle.lowering.proofs.MeaningPlaces.{wide-range, wide-word, wide-same, words-same}
+use Rattle.lowering.proofs.Places.{word-wide}
+use Rattle.lowering.proofs.ShareLaws.{same-wide, same-words}
+use Rattle.lowering.proofs.MeaningPlaces.{wide-range}
 use Rattle.lowering.proofs.Meaning.{Evaluated, right-says}
 use Rattle.lowering.proofs.RightWords.{Operable, WordMade}
 use Rattle.lowering.proofs.RightOperands.{sound, a-is, b-is, c-is, a-right, word-says, word-made}
@@ -73,7 +75,7 @@ module _ {S : Source} {x : List ℕ} (v : Evaluated S x) {k : ℕ} (is : Is (rec
   condition-says m n h o =
       let u : 1 ≤ d .a = sound v is .operands .a-used (ap usesA e) in
       let p : num h (wordAt S n (d .a) 0) (wideOf S (d .a)) ≡ getD x oa 0 = word-says v is (a-is v is u) (omega arith) h n (a-right v is m n h o u) in
-      let w : wideOf S (d .a) ≡ 1 = wide-word S (d .a) (omega arith) ∙ one in
+      let w : wideOf S (d .a) ≡ 1 = word-wide S (d .a) (omega arith) ∙ one in
       let q : bit (h (conditionOf S n k)) ≡ getD x oa 0 = sym (num-one h (wordAt S n (d .a) 0)) ∙ (ap (λ z. num h (wordAt S n (d .a) 0) z) (sym w) ∙ p) in
       ap (λ z. eqb z 1) (sym q) ∙ bit-one (h (conditionOf S n k))
 
@@ -95,7 +97,7 @@ module _ {S : Source} {x : List ℕ} (v : Evaluated S x) {k : ℕ} (is : Is (rec
         → ((h : Assign) → Considered (meaning S x) (t .net) h → Operable S x k m h m → iteValue x oa ob oc i ≡ slotOf S x y i) → WordMade S x k m i t (shareWord S (secondOf S m k) i t)
     side-made y iy same q says =
         rw q
-        (share-made v is m i t lt y iy (rw (words-same S y k same) lt) (omega (arith, wide-same S y k same))
+        (share-made v is m i t lt y iy (rw (same-words S y k same) lt) (omega (arith, same-wide S y k same))
         (λ h ce before o.
         let r : Right (recipe S) (meaning S x) h (t .map) (secondOf S m k) = o .second (λ z. omega (arith, iy .low)) in
         (rw q at r, v .made k i is lt (rw e) ∙ (at-ite (S .addrs) d x oa ob oc _ i e ∙ says h ce before))))
@@ -135,9 +137,9 @@ module _ {S : Source} {x : List ℕ} (v : Evaluated S x) {k : ℕ} (is : Is (rec
         let rb : Right (recipe S) (meaning S x) h (t .map) (secondOf S m k) = o .second (λ y. omega (arith, ib .low)) in
         let rc : Right (recipe S) (meaning S x) h (t .map) (thirdOf S m k) = o .third (λ y. omega (arith, ic .low)) in
         let nb : num h B (wideOf S k) ≡ slotOf S x (d .b) i =
-        ap (λ n. num h B n) (sym (wide-same S (d .b) k left)) ∙ right-says v ib {i = i} (rw (words-same S (d .b) k left) lt) h (t .map) (rw q at rb) in
+        ap (λ n. num h B n) (sym (same-wide S (d .b) k left)) ∙ right-says v ib {i = i} (rw (same-words S (d .b) k left) lt) h (t .map) (rw q at rb) in
         let nc : num h C (wideOf S k) ≡ slotOf S x (d .c) i =
-        ap (λ n. num h C n) (sym (wide-same S (d .c) k right)) ∙ right-says v ic {i = i} (rw (words-same S (d .c) k right) lt) h (t .map) (rw r at rc) in
+        ap (λ n. num h C n) (sym (same-wide S (d .c) k right)) ∙ right-says v ic {i = i} (rw (same-words S (d .c) k right) lt) h (t .map) (rw r at rc) in
         num-choose h (h c) (eachBit (op.Choose c) B C (wideOf S k) (fresh (t .net)) .out) B C (wideOf S k) (L .value h (ce .obeys))
         ∙ (ap₂ (λ (a b : ℕ). pick (h c) a b) nb nc
         ∙ (sym (ite-pick x oa ob oc i (h c) (condition-says m (t .map) h o))

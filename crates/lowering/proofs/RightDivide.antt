@@ -45,7 +45,9 @@ use Rattle.lowering.specs.Source.{Source, nodeOf, wordsOf, wideOf, bitsO
 use Rattle.lowering.specs.Own.{divideOwn}
 use Rattle.lowering.specs.Lower.{recipe}
 use Rattle.lowering.specs.Meaning.{slotOf, isOne, valueOf, dividend, divisor, meaning}
-use Rattle.lowering.proofs.MeaningPlaces.{wide-range, wide-word, words-word, wide-same, bits-all, word-bit, inside}
+use Rattle.lowering.proofs.Places.{word-wide, word-words, bits-words, off-inside}
+use Rattle.lowering.proofs.ShareLaws.{same-wide}
+use Rattle.lowering.proofs.MeaningPlaces.{wide-range, word-bit}
 use Rattle.lowering.proofs.Meaning.{Evaluated, right-says, value-at}
 use Rattle.lowering.proofs.RightWords.{Operable}
 use Rattle.lowering.proofs.RightOperands.{slot-word, sound, a-is, b-is, a-right, b-right, second-plain}
@@ -128,26 +130,26 @@ module _ {S : Source} {x : List ℕ} (v : Evaluated S x) {k : ℕ} (gates : ByGa
   small = wide-range S (v .clear) k .1
 
   wa : wideOf S (d .a) ≡ w
-  wa = wide-same S (d .a) k (z .left)
+  wa = same-wide S (d .a) k (z .left)
 
   wb : wideOf S (d .b) ≡ w
-  wb = wide-same S (d .b) k (z .right)
+  wb = same-wide S (d .b) k (z .right)
 
   words-one : wordsOf S k ≡ 1
-  words-one = words-word S k (z .word)
+  words-one = word-words S k (z .word)
 
   bits : bitsOf S k ≡ w
-  bits = bits-all S k (is .low) ∙ ap (λ n. n * w) words-one ∙ one-times w
+  bits = bits-words S k (is .low) ∙ ap (λ n. n * w) words-one ∙ one-times w
     where
       one-times : (n : ℕ) → 1 * n ≡ n
       one-times n = omega arith
 
   -- the operands' bits say the dividend and the divisor
   a-says : (e : Assign) → Operable S x k (s .map) e (s .map) → num e A w ≡ dividend S x k
-  a-says e o = ap (λ n. num e A n) (sym wa) ∙ right-says v (a-is v is ua) {i = 0} (omega (arith, words-word S (d .a) (omega (arith, z .word, z .left)))) e (s .map) (a-right v is (s .map) (s .map) e o ua)
+  a-says e o = ap (λ n. num e A n) (sym wa) ∙ right-says v (a-is v is ua) {i = 0} (omega (arith, word-words S (d .a) (omega (arith, z .word, z .left)))) e (s .map) (a-right v is (s .map) (s .map) e o ua)
 
   b-says : (e : Assign) → Operable S x k (s .map) e (s .map) → num e B w ≡ divisor S x k
-  b-says e o = ap (λ n. num e B n) (sym wb) ∙ right-says v (b-is v is ub) {i = 0} (omega (arith, words-word S (d .b) (omega (arith, z .word, z .right)))) e (s .map) (b-right v is (s .map) (s .map) e o ni ub)
+  b-says e o = ap (λ n. num e B n) (sym wb) ∙ right-says v (b-is v is ub) {i = 0} (omega (arith, word-words S (d .b) (omega (arith, z .word, z .right)))) e (s .map) (b-right v is (s .map) (s .map) e o ni ub)
 
   -- the node's value
   divu-value : d .kind ≡ DIVU → slotOf S x k 0 ≡ divWord (d .width) (dividend S x k) (divisor S x k)
@@ -177,7 +179,7 @@ module _ {S : Source} {x : List ℕ} (v : Evaluated S x) {k : ℕ} (gates : ByGa
   ended c = record { net = c .net; cons = c .cons .list; nc = c .cons .m; map = putBits (offOf S k) (c .out) w (s .map); stop = s .stop }
 
   placed : (out : List ℕ) → Put (offOf S k) out (s .map) w (putBits (offOf S k) out w (s .map))
-  placed out = put-law (offOf S k) out (s .map) w (omega (arith, inside S k (is .low) (is .high), ready .mapped, bits))
+  placed out = put-law (offOf S k) out (s .map) w (omega (arith, off-inside S k (is .low) (is .high), ready .mapped, bits))
 
   by-zero : (b : Bool) → eqb (divisor S x k) 0 ≡ b → meaning S x .byZero k ≡ b
   by-zero b e = rw (h, e)
@@ -196,7 +198,7 @@ module _ {S : Source} {x : List ℕ} (v : Evaluated S x) {k : ℕ} (gates : ByGa
   unfolding divuOf remOf divWord remWord
   known-says e ob ka kb o =
       let L = numbers quotient w A B blank (omega (arith, small, blank-long)) in
-      let q : w ≡ d .width = wide-word S k (z .word) in
+      let q : w ≡ d .width = word-wide S k (z .word) in
       L .value (s .net) e ob ka kb
       ∙ (ap₂ (λ a b. answerOf quotient w a b) (a-says e o) (b-says e o)
       ∙ (ap (λ n. pick quotient (divuOf n (dividend S x k) (divisor S x k)) (remOf (dividend S x k) (divisor S x k))) q
@@ -245,7 +247,7 @@ module _ {S : Source} {x : List ℕ} (v : Evaluated S x) {k : ℕ} (gates : ByGa
   unfolding asksOf nodeConstraints constraintCeiling divConstraints
   asks =
       let q : k - 1 + 1 ≡ k = omega (arith, is .low) in
-      let u : w ≡ d .width = wide-word S k (z .word) in
+      let u : w ≡ d .width = word-wide S k (z .word) in
       pick-false _ _ _ (ne-eqb k 0 (λ y. omega (arith, is .low))) ∙ (rw q (pick-true _ _ _ h) ∙ ap conCount (sym u))
 
   con-room : ConRoom (made .book .cons)
@@ -254,18 +256,18 @@ module _ {S : Source} {x : List ℕ} (v : Evaluated S x) {k : ℕ} (gates : ByGa
   -- the operands' bits are in the net
   under-word : (y : ℕ) → 1 ≤ y → wordsOf S y ≡ 1 → wideOf S y ≡ w → Under (recipe S) (s .net .n) (s .map) y → Below (s .net .n) (wordAt S (s .map) y 0) w
   under-word y ly one q u j l =
-      let b : bitsOf S y ≡ 1 * wideOf S y = bits-all S y ly ∙ ap (λ n. n * wideOf S y) one in
+      let b : bitsOf S y ≡ 1 * wideOf S y = bits-words S y ly ∙ ap (λ n. n * wideOf S y) one in
       omega (arith, word-bit S (s .map) y 0 j (omega arith), u (0 * wideOf S y + j) (omega arith))
 
   a-below : Below (s .net .n) A w
-  a-below = under-word (d .a) ua (words-word S (d .a) (omega (arith, z .word, z .left))) wa (ready .below .first (λ q. omega (arith, ua)))
+  a-below = under-word (d .a) ua (word-words S (d .a) (omega (arith, z .word, z .left))) wa (ready .below .first (λ q. omega (arith, ua)))
 
   b-below : Below (s .net .n) B w
   b-below =
       let q : secondOf S (s .map) k ≡ d .b = second-plain v is (s .map) ni in
       let low : 1 ≤ d .b = b-is v is ub .low in
       let u : Under (recipe S) (s .net .n) (s .map) (secondOf S (s .map) k) = ready .below .second (λ y. omega arith) in
-      under-word (d .b) low (words-word S (d .b) (omega (arith, z .word, z .right))) wb (rw q at u)
+      under-word (d .b) low (word-words S (d .b) (omega (arith, z .word, z .right))) wb (rw q at u)
 
   -- what the constraints say is a quotient and a remainder of the values
   divided : (e : Assign) → Operable S x k (s .map) e (s .map)
@@ -321,7 +323,7 @@ module _ {S : Source} {x : List ℕ} (v : Evaluated S x) {k : ℕ} (gates : ByGa
   means : (b : Bool) → eqb (divisor S x k) 0 ≡ b → Division (meaning S x) k w (dividend S x k) (divisor S x k)
   means true q = record { zero = λ y. eqb-true (divisor S x k) 0 q; solves = λ y. absurd (let c : _≡_ {A = ℕ} 0 1 = cc (by-zero true q) in omega arith) }
   means false q =
-      let r : dividend S x k < 2 ^ w = rw wa at (v .range (d .a) 0 (a-is v is ua) (omega (arith, words-word S (d .a) (omega (arith, z .word, z .left))))) in
+      let r : dividend S x k < 2 ^ w = rw wa at (v .range (d .a) 0 (a-is v is ua) (omega (arith, word-words S (d .a) (omega (arith, z .word, z .left))))) in
       division (meaning S x) k w (dividend S x k) (divisor S x k) r (by-zero (eqb (divisor S x k) 0) refl)
       (λ j l. ap (λ n. isOne n j) (div-word (d .width) (dividend S x k) (divisor S x k) q))
       (λ j l. ap (λ n. isOne n j) (rem-word (dividend S x k) (divisor S x k) q))

@@ -20,7 +20,7 @@ use Rattle.visits.specs.Claims.{Is, Right, Considered}
 use Rattle.lowering.specs.Source.{Source, nodeOf, wordsOf, wideOf, wordAt, secondOf, thirdOf}
 use Rattle.lowering.specs.Lower.{recipe}
 use Rattle.lowering.specs.Meaning.{slotOf, meaning}
-use Rattle.lowering.proofs.MeaningPlaces.{sound-of, words-word}
+use Rattle.lowering.proofs.Places.{word-words, sound-of}
 use Rattle.lowering.proofs.Meaning.{Evaluated, workedOut, right-says, says-right}
 use Rattle.lowering.proofs.RightWords.{Operable, WordMade, inputs-bound}
 
@@ -30,7 +30,7 @@ slot-word S x k = let q : offset (S .table) (S .addrs) k + 0 ≡ offset (S .tabl
 
 module _ {S : Source} {x : List ℕ} (v : Evaluated S x) {k : ℕ} (is : Is (recipe S) k) where
   pub sound : Sound (S .table) (S .word) k
-  sound = sound-of S (v .clear) k (is .low) (is .high)
+  sound = sound-of S (v .clear) k is
 
   -- its operands are nodes
   pub a-is : 1 ≤ nodeOf S k .a → Is (recipe S) (nodeOf S k .a)
@@ -64,7 +64,7 @@ module _ {S : Source} {x : List ℕ} (v : Evaluated S x) {k : ℕ} (is : Is (rec
   -- the bits of an operand that is a word say its value
   pub word-says : {y : ℕ} → Is (recipe S) y → 1 ≤ widthOf (S .table) y → (e : Assign) (n : List ℕ) → Right (recipe S) (meaning S x) e n y
       → num e (wordAt S n y 0) (wideOf S y) ≡ getD x (offset (S .table) (S .addrs) y) 0
-  word-says {y} iy h e n r = right-says v iy {i = 0} (omega (arith, words-word S y h)) e n r ∙ slot-word S x y
+  word-says {y} iy h e n r = right-says v iy {i = 0} (omega (arith, word-words S y h)) e n r ∙ slot-word S x y
 
   -- from a word's law to its bits: it is enough that they say what the node's kind makes of its operands' values
   pub word-made : {m : List ℕ} {i : ℕ} {t : Core} {y : Word} (c : ℕ) → i < wordsOf S k → given (nodeOf S k) ≡ false → Ext (t .net) (y .net) c

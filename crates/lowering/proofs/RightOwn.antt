@@ -23,7 +23,7 @@ use Rattle.lowering.specs.Source.{Source, nodeOf, wordsOf, conditionOf, 
 use Rattle.lowering.specs.Own.{shares, eachWord, inputWord, shareWord, chooseWord, readWord, wordOwn, iteOwn, divideOwn, writeOwn, madeBy, ownStep}
 use Rattle.lowering.specs.Lower.{recipe}
 use Rattle.lowering.specs.Meaning.{meaning}
-use Rattle.lowering.proofs.MeaningPlaces.{sound-of}
+use Rattle.lowering.proofs.Places.{sound-of}
 use Rattle.lowering.proofs.Meaning.{Evaluated}
 use Rattle.lowering.proofs.RightWords.{WordMade, words-right}
 use Rattle.lowering.proofs.RightPlain.{const-made, not-made, and-made, eq-made, add-made, sub-made, ult-made, mul-made}
@@ -131,7 +131,7 @@ module _ {S : Source} {x : List ℕ} (v : Evaluated S x) (reads : Reads) (writes
   by-rule (is-write e h p q r) = rw (by-write S k s e) (write-right v writes e h p q r s ready)
 
   made-right : Good (madeBy S k s)
-  made-right = by-rule (sound-of S (v .clear) k (ready .is .low) (ready .is .high) .sort)
+  made-right = by-rule (sound-of S (v .clear) k (ready .is) .sort)
 
 -- demand 2 of every own step, from the laws of the words that are read, written and divided
 pub own-right : {S : Source} {x : List ℕ} → Evaluated S x → Reads → Writes → ByGates → ByNumbers → OwnRight (recipe S) (meaning S x)

@@ -42,7 +42,9 @@ use Rattle.lowering.specs.Source.{Source, nodeOf, wordsOf, wideOf, wordA
 use Rattle.lowering.specs.Own.{fresh, ofBit, ofChain, plainWord, wordOwn}
 use Rattle.lowering.specs.Lower.{recipe}
 use Rattle.lowering.specs.Meaning.{isOne}
-use Rattle.lowering.proofs.MeaningPlaces.{wide-word, wide-same, wide-range}
+use Rattle.lowering.proofs.Places.{word-wide}
+use Rattle.lowering.proofs.ShareLaws.{same-wide}
+use Rattle.lowering.proofs.MeaningPlaces.{wide-range}
 use Rattle.lowering.proofs.Meaning.{Evaluated, workedOut}
 use Rattle.lowering.proofs.RightWords.{WordMade}
 use Rattle.lowering.proofs.RightOperands.{sound, a-is, b-is, a-right, b-right, word-says, word-made}
@@ -126,12 +128,12 @@ module _ {S : Source} {x : List ℕ} (v : Evaluated S x) {k : ℕ} (is : Is (rec
       (λ e ce o.
       let p : num e A w ≡ getD x oa 0 = word-says v is (a-is v is (sound v is .operands .a-used ua)) h e (t .map) (a-right v is m (t .map) e o (sound v is .operands .a-used ua)) in
       let q : num e B (wideOf S (d .b)) ≡ getD x ob 0 = word-says v is (b-is v is ub) (omega arith) e (t .map) (b-right v is m (t .map) e o ni ub) in
-      let r : num e B w ≡ getD x ob 0 = ap (λ n. num e B n) (sym (wide-same S (d .b) (d .a) same)) ∙ q in
+      let r : num e B w ≡ getD x ob 0 = ap (λ n. num e B n) (sym (same-wide S (d .b) (d .a) same)) ∙ q in
       law e (ce .obeys) ∙ (ap₂ f p r ∙ sym at))
 
   -- a word of one width throughout
   wide-k : 1 ≤ d .width → wideOf S k ≡ d .width
-  wide-k h = wide-word S k h
+  wide-k h = word-wide S k h
 
   pub const-made : d .kind ≡ CONST → 1 ≤ d .width → d .imm < 2 ^ d .width → Made (wordOwn S k i t)
   unfolding wordOwn plainWord pick
@@ -151,10 +153,10 @@ module _ {S : Source} {x : List ℕ} (v : Evaluated S x) {k : ℕ} (is : Is (rec
 
   -- the width of the operands is the node's own
   wide-own : widthOf (S .table) (d .a) ≡ d .width → wideOf S k ≡ w
-  wide-own same = wide-same S k (d .a) (sym same)
+  wide-own same = same-wide S k (d .a) (sym same)
 
   width-own : 1 ≤ d .width → widthOf (S .table) (d .a) ≡ d .width → d .width ≡ w
-  width-own h same = sym (wide-word S k h) ∙ wide-own same
+  width-own h same = sym (word-wide S k h) ∙ wide-own same
 
   pub not-made : d .kind ≡ NOT → 1 ≤ d .width → widthOf (S .table) (d .a) ≡ d .width → Made (wordOwn S k i t)
   unfolding wordOwn plainWord pick bitValue
@@ -203,7 +205,7 @@ module _ {S : Source} {x : List ℕ} (v : Evaluated S x) {k : ℕ} (is : Is (rec
 
   -- one bit
   wide-one : d .width ≡ 1 → wideOf S k ≡ 1
-  wide-one h = wide-word S k (omega arith) ∙ h
+  wide-one h = word-wide S k (omega arith) ∙ h
 
   pub eq-made : d .kind ≡ EQ → Compared (d .width) (widthOf (S .table) (d .a)) (widthOf (S .table) (d .b)) → Made (wordOwn S k i t)
   unfolding wordOwn plainWord pick

@@ -31,7 +31,8 @@ use Rattle.lowering.specs.Source.{Source, listed, nodeOf, wordsOf, wideO
 use Rattle.lowering.specs.Own.{fresh, readWord}
 use Rattle.lowering.specs.Lower.{recipe}
 use Rattle.lowering.specs.Meaning.{slotOf, meaning}
-use Rattle.lowering.proofs.MeaningPlaces.{Sheeted, wide-word, wide-memory, words-memory, bits-all, place-in, word-bit}
+use Rattle.lowering.proofs.Places.{word-wide, memory-wide, memory-words, bits-words}
+use Rattle.lowering.proofs.MeaningPlaces.{Sheeted, place-in, word-bit}
 use Rattle.lowering.proofs.Meaning.{Evaluated, right-says}
 use Rattle.lowering.proofs.RightWords.{Operable, WordMade}
 use Rattle.lowering.proofs.RightOperands.{sound, a-is, b-is, a-right, b-right, word-says, word-made}
@@ -49,7 +50,7 @@ pub part-num : (S : Source) (n : List ℕ) (y : ℕ) → 1 ≤ y → (i : ℕ) �
 part-num S n y h i lt e =
     num-same e (drop (i * wideOf S y) (allAt S n y)) (wordAt S n y i) (wideOf S y)
     (λ j l.
-    let r : i * wideOf S y + j < bitsOf S y = rw (bits-all S y h) (place-in (wideOf S y) (wordsOf S y) i j lt l) in
+    let r : i * wideOf S y + j < bitsOf S y = rw (bits-words S y h) (place-in (wideOf S y) (wordsOf S y) i j lt l) in
     getD-drop (i * wideOf S y) (allAt S n y) j 0
     ∙ (getD-take (bitsOf S y) (drop (offOf S y) n) (i * wideOf S y + j) 0 r
     ∙ (getD-drop (offOf S y) n (i * wideOf S y + j) 0
@@ -89,7 +90,7 @@ module _ {S : Source} {x : List ℕ} (v : Evaluated S x) {k : ℕ} (is : Is (rec
       → num e (wordAt S n (d .b) 0) (S .word) ≡ getD x ob 0
   address-says ub ni q m n e o =
       let h : 1 ≤ widthOf (S .table) (d .b) = omega (arith, W-range .0) in
-      let w : wideOf S (d .b) ≡ S .word = wide-word S (d .b) h ∙ q in
+      let w : wideOf S (d .b) ≡ S .word = word-wide S (d .b) h ∙ q in
       ap (λ z. num e (wordAt S n (d .b) 0) z) (sym w) ∙ word-says v is (b-is v is ub) h e n (b-right v is m n e o ni ub)
 
   pub read-made : Reads → d .kind ≡ READ → d .width ≡ S .word → widthOf (S .table) (d .a) ≡ 0 → widthOf (S .table) (d .b) ≡ S .word → (m : List ℕ) (i : ℕ) (t : Core) → i < wordsOf S k
@@ -115,13 +116,13 @@ module _ {S : Source} {x : List ℕ} (v : Evaluated S x) {k : ℕ} (is : Is (rec
       ua = sound v is .operands .a-used (ap usesA e)
 
       wk : wideOf S k ≡ S .word
-      wk = wide-word S k (omega (arith, W-range .0)) ∙ hw
+      wk = word-wide S k (omega (arith, W-range .0)) ∙ hw
 
       wa : wideOf S (d .a) ≡ S .word
-      wa = wide-memory S (d .a) ha
+      wa = memory-wide S (d .a) ha
 
       na : wordsOf S (d .a) ≡ listed S
-      na = words-memory S (d .a) ha
+      na = memory-words S (d .a) ha
 
       said : (h : Assign) → Considered (meaning S x) (readWords (listed S) (S .word) (S .addrs) mem adr (fresh (t .net)) .net) h → Operable S x k m h (t .map) → Dec (place < listed S)
           → num h out (S .word) ≡ readValue (S .addrs) x oa place

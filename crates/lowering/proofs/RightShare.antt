@@ -26,7 +26,9 @@ use Rattle.lowering.specs.Source.{Source, nodeOf, wordsOf, wideOf, wordA
 use Rattle.lowering.specs.Own.{shareWord}
 use Rattle.lowering.specs.Lower.{recipe}
 use Rattle.lowering.specs.Meaning.{slotOf, meaning}
-use Rattle.lowering.proofs.MeaningPlaces.{wide-range, wide-word, wide-same, words-word, words-same}
+use Rattle.lowering.proofs.Places.{word-wide, word-words}
+use Rattle.lowering.proofs.ShareLaws.{same-wide, same-words}
+use Rattle.lowering.proofs.MeaningPlaces.{wide-range}
 use Rattle.lowering.proofs.Meaning.{Evaluated, right-says, says-right}
 use Rattle.lowering.proofs.RightWords.{Operable, WordMade}
 use Rattle.lowering.proofs.RightOperands.{slot-word, sound, a-is, a-right}
@@ -75,16 +77,16 @@ module _ {S : Source} {x : List ℕ} (v : Evaluated S x) {k : ℕ} (is : Is (rec
 
   pub state-made : d .kind ≡ STATE → given d ≡ false → 1 ≤ d .a → widthOf (S .table) (d .a) ≡ d .width → WordMade S x k m i t (shareWord S (d .a) i t)
   state-made e g u same =
-      share-made (d .a) (a-is v is u) (rw (words-same S (d .a) k same) lt) (omega (arith, wide-same S (d .a) k same))
+      share-made (d .a) (a-is v is u) (rw (same-words S (d .a) k same) lt) (omega (arith, same-wide S (d .a) k same))
       (λ a ce before o. (a-right v is m (t .map) a o u, v .made k i is lt g ∙ at-state (S .addrs) d x oa ob oc _ i e))
 
   -- a word of a word
   one-made : 1 ≤ d .a → given d ≡ false → 1 ≤ d .width → 1 ≤ widthOf (S .table) (d .a) → widthOf (S .table) (d .a) ≤ d .width
       → slotOf S x k i ≡ getD x oa 0 → WordMade S x k m i t (shareWord S (d .a) i t)
   one-made u g h ha le at =
-      let z : i ≡ 0 = omega (arith, words-word S k h) in
+      let z : i ≡ 0 = omega (arith, word-words S k h) in
       let r : slotOf S x (d .a) 0 ≡ getD x oa 0 = slot-word S x (d .a) in
-      share-made (d .a) (a-is v is u) (omega (arith, words-word S (d .a) ha, words-word S k h)) (omega (arith, wide-word S k h, wide-word S (d .a) ha))
+      share-made (d .a) (a-is v is u) (omega (arith, word-words S (d .a) ha, word-words S k h)) (omega (arith, word-wide S k h, word-wide S (d .a) ha))
       (λ a ce before o. (a-right v is m (t .map) a o u, at ∙ (sym r ∙ ap (λ n. slotOf S x (d .a) n) (sym z))))
 
   pub bad-made : d .kind ≡ BAD → d .width ≡ 1 → widthOf (S .table) (d .a) ≡ 1 → WordMade S x k m i t (shareWord S (d .a) i t)
@@ -94,5 +96,5 @@ module _ {S : Source} {x : List ℕ} (v : Evaluated S x) {k : ℕ} (is : Is (rec
 
   pub ext-made : d .kind ≡ EXT → d .width ≡ 64 → 1 ≤ widthOf (S .table) (d .a) → WordMade S x k m i t (shareWord S (d .a) i t)
   ext-made e h ha =
-      one-made (sound v is .operands .a-used (ap usesA e)) (rw e) (omega arith) ha (omega (arith, wide-word S (d .a) ha, wide-range S (v .clear) (d .a) .1))
+      one-made (sound v is .operands .a-used (ap usesA e)) (rw e) (omega arith) ha (omega (arith, word-wide S (d .a) ha, wide-range S (v .clear) (d .a) .1))
       (v .made k i is lt (rw e) ∙ at-ext (S .addrs) d x oa ob oc _ i e)

@@ -25,7 +25,8 @@ use Rattle.lowering.specs.Source.{Source, nodeOf, wordsOf, wideOf, bitsO
 use Rattle.lowering.specs.Own.{wordStep, eachWord}
 use Rattle.lowering.specs.Lower.{recipe}
 use Rattle.lowering.specs.Meaning.{valueOf, meaning}
-use Rattle.lowering.proofs.MeaningPlaces.{Sheeted, sound-of, before, inside, bits-all}
+use Rattle.lowering.proofs.Places.{off-apart, off-inside, bits-words, sound-of}
+use Rattle.lowering.proofs.MeaningPlaces.{Sheeted}
 
 -- what is considered of a grown net was considered before
 pub considered-back : (M : Meaning) (s t : Net) (c : ℕ) (e : Assign) → Grows s t c → Considered M t e → Considered M s e
@@ -69,20 +70,20 @@ WordMade S x k m i t y = WordSays S x k (valueOf S x k) m i t y
 module _ (S : Source) (x : List ℕ) (k : ℕ) (clear : Sheeted S) (is : Is (recipe S) k) where
   -- bits below a node's own are right where they were
   right-kept : (m n : List ℕ) (e : Assign) → ((p : ℕ) → p < offOf S k → getD n p 0 ≡ getD m p 0) → (y : ℕ) → y < k → Right (recipe S) (meaning S x) e m y → Right (recipe S) (meaning S x) e n y
-  right-kept m n e same y lt r j h = ap e (same (offOf S y + j) (omega (arith, before S y k lt))) ∙ r j h
+  right-kept m n e same y lt r j h = ap e (same (offOf S y + j) (omega (arith, off-apart S y k lt))) ∙ r j h
 
   second-less : (m : List ℕ) → secondOf S m k < k
   unfolding secondOf
-  second-less m = let q = sound-of S clear k (is .low) (is .high) .operands in by-pick (λ y. y < k) (eqb (nodeOf S k .kind) ITE && eqb (conditionOf S m k) 0) (nodeOf S k .c) (nodeOf S k .b) (λ e. q .c) (λ e. q .b)
+  second-less m = let q = sound-of S clear k is .operands in by-pick (λ y. y < k) (eqb (nodeOf S k .kind) ITE && eqb (conditionOf S m k) 0) (nodeOf S k .c) (nodeOf S k .b) (λ e. q .c) (λ e. q .b)
 
   third-less : (m : List ℕ) → thirdOf S m k < k
   unfolding thirdOf
-  third-less m = let q = sound-of S clear k (is .low) (is .high) .operands in by-pick (λ y. y < k) (eqb (nodeOf S k .kind) ITE && isKnown (conditionOf S m k)) 0 (nodeOf S k .c) (λ e. is .low) (λ e. q .c)
+  third-less m = let q = sound-of S clear k is .operands in by-pick (λ y. y < k) (eqb (nodeOf S k .kind) ITE && isKnown (conditionOf S m k)) 0 (nodeOf S k .c) (λ e. is .low) (λ e. q .c)
 
   pub operable-kept : (m p n : List ℕ) (e : Assign) → ((q : ℕ) → q < offOf S k → getD n q 0 ≡ getD p q 0) → Operable S x k m e p → Operable S x k m e n
   operable-kept m p n e same o =
       record {
-        first = λ z. right-kept p n e same (firstOf S k) (sound-of S clear k (is .low) (is .high) .operands .a) (o .first z);
+        first = λ z. right-kept p n e same (firstOf S k) (sound-of S clear k is .operands .a) (o .first z);
         second = λ z. right-kept p n e same (secondOf S m k) (second-less m) (o .second z);
         third = λ z. right-kept p n e same (thirdOf S m k) (third-less m) (o .third z);
       }
@@ -114,8 +115,8 @@ module _ (S : Source) (x : List ℕ) (k : ℕ) (val : ℕ → Bool) (s : Core) (
   room : (i : ℕ) → i < wordsOf S k → offOf S k + i * wideOf S k + wideOf S k ≤ length (s .map)
   room i lt =
       let r : suc i + (wordsOf S k - suc i) ≡ wordsOf S k = omega arith in
-      let b : bitsOf S k ≡ (suc i + (wordsOf S k - suc i)) * wideOf S k = bits-all S k (ready .is .low) ∙ ap (λ n. n * wideOf S k) (sym r) in
-      omega (arith, inside S k (ready .is .low) (ready .is .high), ready .mapped)
+      let b : bitsOf S k ≡ (suc i + (wordsOf S k - suc i)) * wideOf S k = bits-words S k (ready .is .low) ∙ ap (λ n. n * wideOf S k) (sym r) in
+      omega (arith, off-inside S k (ready .is .low) (ready .is .high), ready .mapped)
 
   words-next : (i : ℕ) (t : Core) → i < wordsOf S k → WordsSay S x k val s i t → WordsSay S x k val s (suc i) (wordStep S k f i t)
   unfolding wordStep stored
@@ -163,5 +164,5 @@ words-right S x k s f clear ready nd each =
       asks = w .asks;
       only = w .only;
       divides = λ e ce o. rw nd;
-      right = λ e ce o j l. w .right e ce o j (rw (bits-all S k (ready .is .low)) at l);
+      right = λ e ce o j l. w .right e ce o j (rw (bits-words S k (ready .is .low)) at l);
     })

@@ -35,7 +35,9 @@ use Rattle.lowering.specs.Source.{Source, listed, nodeOf, wordsOf, wideO
 use Rattle.lowering.specs.Own.{shareWord, eachWord, writeOwn}
 use Rattle.lowering.specs.Lower.{recipe}
 use Rattle.lowering.specs.Meaning.{slotOf, valueOf, meaning}
-use Rattle.lowering.proofs.MeaningPlaces.{Sheeted, wide-range, wide-word, wide-memory, words-memory, wide-same, words-same, bits-all, place-in, word-bit, inside}
+use Rattle.lowering.proofs.Places.{word-wide, memory-wide, memory-words, bits-words, off-inside}
+use Rattle.lowering.proofs.ShareLaws.{same-wide, same-words}
+use Rattle.lowering.proofs.MeaningPlaces.{Sheeted, wide-range, place-in, word-bit}
 use Rattle.lowering.proofs.Meaning.{Evaluated, value-at}
 use Rattle.lowering.proofs.RightWords.{Operable, WordSays, WordsSay, words-made, considered-back, inputs-trans, inputs-bound}
 use Rattle.lowering.proofs.RightOperands.{sound, a-is, c-is, a-right, c-right, word-says}
@@ -76,15 +78,15 @@ module _ {S : Source} {x : List ℕ} (v : Evaluated S x) {k : ℕ} (writes : Wri
   unfolding shareWord
   old-made i t lt =
       let same : widthOf (S .table) (nodeOf S k .a) ≡ nodeOf S k .width = ha ∙ sym hw in
-      let w : wideOf S k ≡ wideOf S (nodeOf S k .a) = sym (wide-same S (nodeOf S k .a) k same) in
-      let u : wordsOf S k ≡ wordsOf S (nodeOf S k .a) = sym (words-same S (nodeOf S k .a) k same) in
+      let w : wideOf S k ≡ wideOf S (nodeOf S k .a) = sym (same-wide S (nodeOf S k .a) k same) in
+      let u : wordsOf S k ≡ wordsOf S (nodeOf S k .a) = sym (same-words S (nodeOf S k .a) k same) in
       record {
         cost = 0;
         grows = grows-refl (t .net) 0;
         only = λ room g lo hi fr. absurd (omega arith);
         right = λ h ce before o. rw w
             (λ j l. ap h (wide-at (wideOf S (nodeOf S k .a)) (wordAt S (t .map) (nodeOf S k .a) i) (wide-range S (v .clear) (nodeOf S k .a) .1) j l ∙ word-bit S (t .map) (nodeOf S k .a) i j l)
-            ∙ a-right v is (s .map) (t .map) h o ua (i * wideOf S (nodeOf S k .a) + j) (rw (bits-all S (nodeOf S k .a) ua) (place-in (wideOf S (nodeOf S k .a)) (wordsOf S (nodeOf S k .a)) i j (rw u at lt) l)));
+            ∙ a-right v is (s .map) (t .map) h o ua (i * wideOf S (nodeOf S k .a) + j) (rw (bits-words S (nodeOf S k .a) ua) (place-in (wideOf S (nodeOf S k .a)) (wordsOf S (nodeOf S k .a)) i j (rw u at lt) l)));
       }
 
   abbrev t : Core
@@ -94,26 +96,26 @@ module _ {S : Source} {x : List ℕ} (v : Evaluated S x) {k : ℕ} (writes : Wri
   old = words-made S x k (valueOf S x (nodeOf S k .a)) s (shareWord S (nodeOf S k .a)) (v .clear) ready old-made
 
   wk : wideOf S k ≡ W
-  wk = wide-memory S k hw
+  wk = memory-wide S k hw
 
   nk : wordsOf S k ≡ n
-  nk = words-memory S k hw
+  nk = memory-words S k hw
 
   wka : wideOf S k ≡ wideOf S (nodeOf S k .a)
-  wka = wk ∙ sym (wide-memory S (nodeOf S k .a) ha)
+  wka = wk ∙ sym (memory-wide S (nodeOf S k .a) ha)
 
   nka : wordsOf S k ≡ wordsOf S (nodeOf S k .a)
-  nka = nk ∙ sym (words-memory S (nodeOf S k .a) ha)
+  nka = nk ∙ sym (memory-words S (nodeOf S k .a) ha)
 
   abbrev mem : List ℕ
   mem = allAt S (t .map) k
 
   fits : offOf S k + bitsOf S k ≤ length (t .map)
-  fits = omega (arith, inside S k (is .low) (is .high), ready .mapped, old .long)
+  fits = omega (arith, off-inside S k (is .low) (is .high), ready .mapped, old .long)
 
   mem-long : n * W ≤ length mem
   mem-long =
-      let b : bitsOf S k ≡ n * W = bits-all S k (is .low) ∙ ap₂ _*_ nk wk in
+      let b : bitsOf S k ≡ n * W = bits-words S k (is .low) ∙ ap₂ _*_ nk wk in
       let a : length (drop (offOf S k) (t .map)) ≡ length (t .map) - offOf S k = length-drop (offOf S k) (t .map) in
       let c : length (take (bitsOf S k) (drop (offOf S k) (t .map))) ≡ bitsOf S k = length-take-le (bitsOf S k) (drop (offOf S k) (t .map)) (omega (arith, fits)) in
       omega arith
@@ -154,7 +156,7 @@ module _ {S : Source} {x : List ℕ} (v : Evaluated S x) {k : ℕ} (writes : Wri
   value-says h o =
       let u : usesC (nodeOf S k .kind) ≡ true = ap usesC e in
       let l : 1 ≤ widthOf (S .table) (nodeOf S k .c) = omega (arith, W-range v is .0) in
-      let w : wideOf S (nodeOf S k .c) ≡ W = wide-word S (nodeOf S k .c) l ∙ hc in
+      let w : wideOf S (nodeOf S k .c) ≡ W = word-wide S (nodeOf S k .c) l ∙ hc in
       ap (λ z. num h val z) (sym w) ∙ word-says v is (c-is v is u) l h (s .map) (c-right v is (s .map) (s .map) h o (rw e) u)
 
   written : (i : ℕ) → i < wordsOf S k → slotOf S x k i ≡ pick (eqb (getD (S .addrs) i 0) (getD x ob 0)) (getD x oc 0) (slotOf S x (nodeOf S k .a) i)
@@ -179,7 +181,7 @@ module _ {S : Source} {x : List ℕ} (v : Evaluated S x) {k : ℕ} (writes : Wri
   new-bits h ce o j l =
       let w : ℕ = wideOf S k in
       let pos : 0 < wideOf S k = wide-range S (v .clear) k .0 in
-      let lt : j / wideOf S k < wordsOf S k = div-lt-iff-lt-mul pos .1 (rw (bits-all S k (is .low)) at l) in
+      let lt : j / wideOf S k < wordsOf S k = div-lt-iff-lt-mul pos .1 (rw (bits-words S k (is .low)) at l) in
       let q : j / wideOf S k * wideOf S k + j % wideOf S k ≡ j = div-add-mod' j (wideOf S k) in
       let r = num-right h (drop (j / wideOf S k * wideOf S k) (y .out)) (wideOf S k) (slotOf S x k (j / wideOf S k)) (v .range k (j / wideOf S k) is lt)
       (new-says h ce o (j / wideOf S k) lt) (j % wideOf S k) (mod-lt j pos) in
