@@ -21,3 +21,4 @@ pub mod RightRead
 pub mod RightWrite
 pub mod RightDivide
 pub mod RightOwn
+pub mod RightLower

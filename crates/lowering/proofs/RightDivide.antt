@@ -47,17 +47,12 @@ use Rattle.lowering.specs.Lower.{recipe}
 use Rattle.lowering.specs.Meaning.{slotOf, isOne, valueOf, dividend, divisor, meaning}
 use Rattle.lowering.proofs.Places.{word-wide, word-words, bits-words, off-inside}
 use Rattle.lowering.proofs.ShareLaws.{same-wide}
+use Rattle.lowering.proofs.ShapeLaws.{second-else}
+use Rattle.lowering.proofs.DivisionLaws.{DividesOwed, KnownOwed}
 use Rattle.lowering.proofs.MeaningPlaces.{wide-range, word-bit}
 use Rattle.lowering.proofs.Meaning.{Evaluated, right-says, value-at}
 use Rattle.lowering.proofs.RightWords.{Operable}
-use Rattle.lowering.proofs.RightOperands.{slot-word, sound, a-is, b-is, a-right, b-right, second-plain}
-
--- the laws of division by gates and of known operands
-abbrev pub ByGates : Type 0
-ByGates = (w node : ℕ) (n d : List ℕ) (s : Book) → w ≤ 64 → DivLaw w node n d s (divWords w node n d s)
-
-abbrev pub ByNumbers : Type 0
-ByNumbers = (quotient : Bool) (w : ℕ) (n d out : List ℕ) → w ≤ length out → KnownLaw quotient w n d out (knownWord quotient w n d out)
+use Rattle.lowering.proofs.RightOperands.{slot-word, sound, a-is, b-is, a-right, b-right}
 
 -- a kind that divides has two operands, and is no ite
 by-kind : (P : ℕ → Type 0) (k : ℕ) → P DIVU → P REM → divides k ≡ true → P k
@@ -93,7 +88,7 @@ met-holds : (e : Assign) (l : List ℕ) (n a b : ℕ) → Within n l a b → ((i
 unfolding Holds Within conGate conValue
 met-holds e l n a b w h i lo hi = ap bit (h i lo hi) ∙ bit-eqb (getD l (2 * i + 1) 0) (w i lo hi .1)
 
-module _ {S : Source} {x : List ℕ} (v : Evaluated S x) {k : ℕ} (gates : ByGates) (numbers : ByNumbers) (h : divides (nodeOf S k .kind) ≡ true)
+module _ {S : Source} {x : List ℕ} (v : Evaluated S x) {k : ℕ} (gates : DividesOwed) (numbers : KnownOwed) (h : divides (nodeOf S k .kind) ≡ true)
     (z : Even (nodeOf S k .width) (widthOf (S .table) (nodeOf S k .a)) (widthOf (S .table) (nodeOf S k .b))) (s : Core) (ready : Ready (recipe S) k s)
     (goes : blockedOf S (s .map) k ≡ false) where
   abbrev d : Node
@@ -120,8 +115,8 @@ module _ {S : Source} {x : List ℕ} (v : Evaluated S x) {k : ℕ} (gates : ByGa
   ub : usesB (d .kind) ≡ true
   ub = by-kind (λ n. usesB n ≡ true) (d .kind) refl refl h
 
-  ni : eqb (d .kind) ITE ≡ false
-  ni = by-kind (λ n. eqb n ITE ≡ false) (d .kind) refl refl h
+  ni : d .kind ≡ ITE → ⊥
+  ni = by-kind (λ n. n ≡ ITE → ⊥) (d .kind) (λ q. omega arith) (λ q. omega arith) h
 
   no-given : given d ≡ false
   no-given = by-kind (λ n. (eqb n INPUT || (eqb n STATE && eqb (d .a) 0)) ≡ false) (d .kind) refl refl h
@@ -264,7 +259,7 @@ module _ {S : Source} {x : List ℕ} (v : Evaluated S x) {k : ℕ} (gates : ByGa
 
   b-below : Below (s .net .n) B w
   b-below =
-      let q : secondOf S (s .map) k ≡ d .b = second-plain v is (s .map) ni in
+      let q : secondOf S (s .map) k ≡ d .b = second-else S (s .map) k ni in
       let low : 1 ≤ d .b = b-is v is ub .low in
       let u : Under (recipe S) (s .net .n) (s .map) (secondOf S (s .map) k) = ready .below .second (λ y. omega arith) in
       under-word (d .b) low (word-words S (d .b) (omega (arith, z .word, z .right))) wb (rw q at u)

@@ -20,6 +20,7 @@ use Rattle.visits.specs.Claims.{Is, Right, Considered}
 use Rattle.lowering.specs.Source.{Source, nodeOf, wordsOf, wideOf, wordAt, secondOf, thirdOf}
 use Rattle.lowering.specs.Lower.{recipe}
 use Rattle.lowering.specs.Meaning.{slotOf, meaning}
+use Rattle.lowering.proofs.ShapeLaws.{second-else, third-else}
 use Rattle.lowering.proofs.Places.{word-words, sound-of}
 use Rattle.lowering.proofs.Meaning.{Evaluated, workedOut, right-says, says-right}
 use Rattle.lowering.proofs.RightWords.{Operable, WordMade, inputs-bound}
@@ -42,24 +43,16 @@ module _ {S : Source} {x : List ℕ} (v : Evaluated S x) {k : ℕ} (is : Is (rec
   pub c-is : usesC (nodeOf S k .kind) ≡ true → Is (recipe S) (nodeOf S k .c)
   c-is u = record { low = sound .operands .c-used u; high = omega (arith, sound .operands .c, is .high) }
 
-  pub second-plain : (m : List ℕ) → eqb (nodeOf S k .kind) ITE ≡ false → secondOf S m k ≡ nodeOf S k .b
-  unfolding secondOf
-  second-plain m n = rw n (pick-false _ _ _ refl)
-
-  third-plain : (m : List ℕ) → eqb (nodeOf S k .kind) ITE ≡ false → thirdOf S m k ≡ nodeOf S k .c
-  unfolding thirdOf
-  third-plain m n = rw n (pick-false _ _ _ refl)
-
   module _ (m n : List ℕ) (e : Assign) (o : Operable S x k m e n) where
     -- and their bits are right
     pub a-right : 1 ≤ nodeOf S k .a → Right (recipe S) (meaning S x) e n (nodeOf S k .a)
     a-right u = o .first (λ z. omega arith)
 
-    pub b-right : eqb (nodeOf S k .kind) ITE ≡ false → usesB (nodeOf S k .kind) ≡ true → Right (recipe S) (meaning S x) e n (nodeOf S k .b)
-    b-right ni u = let q : secondOf S m k ≡ nodeOf S k .b = second-plain m ni in rw q at (o .second (λ z. omega (arith, b-is u .low)))
+    pub b-right : (nodeOf S k .kind ≡ ITE → ⊥) → usesB (nodeOf S k .kind) ≡ true → Right (recipe S) (meaning S x) e n (nodeOf S k .b)
+    b-right ni u = let q : secondOf S m k ≡ nodeOf S k .b = second-else S m k ni in rw q at (o .second (λ z. omega (arith, b-is u .low)))
 
-    pub c-right : eqb (nodeOf S k .kind) ITE ≡ false → usesC (nodeOf S k .kind) ≡ true → Right (recipe S) (meaning S x) e n (nodeOf S k .c)
-    c-right ni u = let q : thirdOf S m k ≡ nodeOf S k .c = third-plain m ni in rw q at (o .third (λ z. omega (arith, c-is u .low)))
+    pub c-right : (nodeOf S k .kind ≡ ITE → ⊥) → usesC (nodeOf S k .kind) ≡ true → Right (recipe S) (meaning S x) e n (nodeOf S k .c)
+    c-right ni u = let q : thirdOf S m k ≡ nodeOf S k .c = third-else S m k ni in rw q at (o .third (λ z. omega (arith, c-is u .low)))
 
   -- the bits of an operand that is a word say its value
   pub word-says : {y : ℕ} → Is (recipe S) y → 1 ≤ widthOf (S .table) y → (e : Assign) (n : List ℕ) → Right (recipe S) (meaning S x) e n y

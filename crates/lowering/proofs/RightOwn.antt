@@ -23,6 +23,8 @@ use Rattle.lowering.specs.Source.{Source, nodeOf, wordsOf, conditionOf, 
 use Rattle.lowering.specs.Own.{shares, eachWord, inputWord, shareWord, chooseWord, readWord, wordOwn, iteOwn, divideOwn, writeOwn, madeBy, ownStep}
 use Rattle.lowering.specs.Lower.{recipe}
 use Rattle.lowering.specs.Meaning.{meaning}
+use Rattle.lowering.proofs.MemoryLaws.{ReadsOwed, WritesOwed}
+use Rattle.lowering.proofs.DivisionLaws.{DividesOwed, KnownOwed}
 use Rattle.lowering.proofs.Places.{sound-of}
 use Rattle.lowering.proofs.Meaning.{Evaluated}
 use Rattle.lowering.proofs.RightWords.{WordMade, words-right}
@@ -30,9 +32,9 @@ use Rattle.lowering.proofs.RightPlain.{const-made, not-made, and-made, 
 use Rattle.lowering.proofs.RightInput.{input-made}
 use Rattle.lowering.proofs.RightShare.{state-made, bad-made, ext-made}
 use Rattle.lowering.proofs.RightChoice.{known-made, choose-made}
-use Rattle.lowering.proofs.RightRead.{Reads, read-made}
-use Rattle.lowering.proofs.RightWrite.{Writes, write-right}
-use Rattle.lowering.proofs.RightDivide.{ByGates, ByNumbers, division-right}
+use Rattle.lowering.proofs.RightRead.{read-made}
+use Rattle.lowering.proofs.RightWrite.{write-right}
+use Rattle.lowering.proofs.RightDivide.{division-right}
 
 neither : (p q : Bool) → (p || q) ≡ false → (p ≡ false) × (q ≡ false)
 neither true q e = absurd (let z : _≡_ {A = ℕ} 0 1 = cc in omega arith)
@@ -84,7 +86,7 @@ module _ (S : Source) (k : ℕ) (s : Core) where
       pick-false _ _ _ (v .0)
       ∙ (pick-false _ _ _ (v .1) ∙ (pick-false _ _ _ (u .1) ∙ (pick-false _ _ _ (r .1) ∙ (pick-false _ _ _ (q .1) ∙ pick-false _ _ _ (p .1)))))
 
-module _ {S : Source} {x : List ℕ} (v : Evaluated S x) (reads : Reads) (writes : Writes) (gates : ByGates) (numbers : ByNumbers) (k : ℕ) (s : Core) (ready : Ready (recipe S) k s)
+module _ {S : Source} {x : List ℕ} (v : Evaluated S x) (reads : ReadsOwed S) (writes : WritesOwed S) (gates : DividesOwed) (numbers : KnownOwed) (k : ℕ) (s : Core) (ready : Ready (recipe S) k s)
     (goes : blockedOf S (s .map) k ≡ false) where
   abbrev Good : Core → Type 0
   Good t = StepRight (recipe S) (meaning S x) k s t
@@ -134,7 +136,7 @@ module _ {S : Source} {x : List ℕ} (v : Evaluated S x) (reads : Reads) (writes
   made-right = by-rule (sound-of S (v .clear) k (ready .is) .sort)
 
 -- demand 2 of every own step, from the laws of the words that are read, written and divided
-pub own-right : {S : Source} {x : List ℕ} → Evaluated S x → Reads → Writes → ByGates → ByNumbers → OwnRight (recipe S) (meaning S x)
+pub own-right : {S : Source} {x : List ℕ} → Evaluated S x → ReadsOwed S → WritesOwed S → DividesOwed → KnownOwed → OwnRight (recipe S) (meaning S x)
 unfolding ownStep
 own-right {S} {x} v reads writes gates numbers k s ready =
     by-pick Fair (eqb (s .stop) 0) _ _

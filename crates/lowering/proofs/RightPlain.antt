@@ -120,7 +120,7 @@ module _ {S : Source} {x : List ℕ} (v : Evaluated S x) {k : ℕ} (is : Is (rec
       word-made v is c lt g ext
       (λ e ce o. law e (ce .obeys) ∙ (ap f (word-says v is (a-is v is (sound v is .operands .a-used u)) h e (t .map) (a-right v is m (t .map) e o (sound v is .operands .a-used u))) ∙ sym at))
 
-  two : (y : Word) (c : ℕ) (f : ℕ → ℕ → ℕ) → usesA (d .kind) ≡ true → usesB (d .kind) ≡ true → eqb (d .kind) ITE ≡ false → given d ≡ false → 1 ≤ widthOf (S .table) (d .a)
+  two : (y : Word) (c : ℕ) (f : ℕ → ℕ → ℕ) → usesA (d .kind) ≡ true → usesB (d .kind) ≡ true → (d .kind ≡ ITE → ⊥) → given d ≡ false → 1 ≤ widthOf (S .table) (d .a)
       → widthOf (S .table) (d .b) ≡ widthOf (S .table) (d .a) → Ext (t .net) (y .net) c
       → ((e : Assign) → Obeys (y .net) e → num e (y .out) (wideOf S k) ≡ f (num e A w) (num e B w)) → workedOut S x k i ≡ f (getD x oa 0) (getD x ob 0) → Made y
   two y c f ua ub ni g h same ext law at =
@@ -172,7 +172,7 @@ module _ {S : Source} {x : List ℕ} (v : Evaluated S x) {k : ℕ} (is : Is (rec
   and-made e z =
       let L : EachLaw op.And A B (fresh (t .net)) w (eachBit op.And A B w (fresh (t .net))) = each-law op.And A B (fresh (t .net)) w (omega (arith, blank-long, w-small)) in
       rw e
-      (two (eachBit op.And A B w (fresh (t .net))) (eachCost op.And A B w) bitAnd (ap usesA e) (ap usesB e) (rw e) (rw e) (omega (arith, z .word, z .left)) (z .right ∙ sym (z .left)) (L .ext)
+      (two (eachBit op.And A B w (fresh (t .net))) (eachCost op.And A B w) bitAnd (ap usesA e) (ap usesB e) (λ q. omega arith) (rw e) (omega (arith, z .word, z .left)) (z .right ∙ sym (z .left)) (L .ext)
       (λ a o. rw (wide-own (z .left)) (and-says a (eachBit op.And A B w (fresh (t .net)) .out) A B w (L .value a o)))
       (at-and (S .addrs) d x oa ob oc _ i e))
 
@@ -181,7 +181,7 @@ module _ {S : Source} {x : List ℕ} (v : Evaluated S x) {k : ℕ} (is : Is (rec
   add-made e z =
       let L = add-law A B (record { net = t .net; carry = 0; out = blank }) w (omega (arith, blank-long, w-small)) in
       rw e
-      (two (ofChain (addWords w A B (record { net = t .net; carry = 0; out = blank }))) (addCost A B w) (addWord (d .width)) (ap usesA e) (ap usesB e) (rw e) (rw e) (omega (arith, z .word, z .left)) (z .right ∙ sym (z .left)) (L .ext)
+      (two (ofChain (addWords w A B (record { net = t .net; carry = 0; out = blank }))) (addCost A B w) (addWord (d .width)) (ap usesA e) (ap usesB e) (λ q. omega arith) (rw e) (omega (arith, z .word, z .left)) (z .right ∙ sym (z .left)) (L .ext)
       (λ a o. rw (wide-own (z .left), width-own (z .word) (z .left)) (add-value A B (record { net = t .net; carry = 0; out = blank }) w _ L refl a o))
       (at-add (S .addrs) d x oa ob oc _ i e))
 
@@ -190,7 +190,7 @@ module _ {S : Source} {x : List ℕ} (v : Evaluated S x) {k : ℕ} (is : Is (rec
   sub-made e z =
       let L = sub-law w A B (t .net) blank (omega (arith, w-small)) (omega (arith, blank-long, w-small)) in
       rw e
-      (two (ofChain (subWords w A B (t .net) blank)) (subCost A B w) (subWord (d .width)) (ap usesA e) (ap usesB e) (rw e) (rw e) (omega (arith, z .word, z .left)) (z .right ∙ sym (z .left)) (L .ext)
+      (two (ofChain (subWords w A B (t .net) blank)) (subCost A B w) (subWord (d .width)) (ap usesA e) (ap usesB e) (λ q. omega arith) (rw e) (omega (arith, z .word, z .left)) (z .right ∙ sym (z .left)) (L .ext)
       (λ a o. rw (wide-own (z .left), width-own (z .word) (z .left)) (sub-value w A B (t .net) blank _ L a o ∙ sub-same w (num a A w) (num a B w) (num-lt a B w)))
       (at-sub (S .addrs) d x oa ob oc _ i e))
 
@@ -199,7 +199,7 @@ module _ {S : Source} {x : List ℕ} (v : Evaluated S x) {k : ℕ} (is : Is (rec
   mul-made e z =
       let L = mul-law w A B (fresh (t .net)) (omega (arith, w-small)) (omega (arith, blank-long, w-small)) in
       rw e
-      (two (mulWords w A B (fresh (t .net))) (mulCost w) (mulWord (d .width)) (ap usesA e) (ap usesB e) (rw e) (rw e) (omega (arith, z .word, z .left)) (z .right ∙ sym (z .left)) (L .ext)
+      (two (mulWords w A B (fresh (t .net))) (mulCost w) (mulWord (d .width)) (ap usesA e) (ap usesB e) (λ q. omega arith) (rw e) (omega (arith, z .word, z .left)) (z .right ∙ sym (z .left)) (L .ext)
       (λ a o. rw (wide-own (z .left), width-own (z .word) (z .left)) (L .value a o))
       (at-mul (S .addrs) d x oa ob oc _ i e))
 
@@ -212,7 +212,7 @@ module _ {S : Source} {x : List ℕ} (v : Evaluated S x) {k : ℕ} (is : Is (rec
   eq-made e z =
       let L = eq-law w A B (t .net) (wide-range S (v .clear) (d .a) .0) (omega (arith, w-small)) in
       rw e
-      (two (ofBit (eqWords w A B (t .net))) (eqCost A B w) (λ p q. bit (eqb p q)) (ap usesA e) (ap usesB e) (rw e) (rw e) (z .word) (z .same) (L .ext)
+      (two (ofBit (eqWords w A B (t .net))) (eqCost A B w) (λ p q. bit (eqb p q)) (ap usesA e) (ap usesB e) (λ q. omega arith) (rw e) (z .word) (z .same) (L .ext)
       (λ a o. rw (wide-one (z .one)) (num-bit a (eqWords w A B (t .net) .bit) ∙ ap bit (L .value a o)))
       (at-eq (S .addrs) d x oa ob oc _ i e))
 
@@ -221,6 +221,6 @@ module _ {S : Source} {x : List ℕ} (v : Evaluated S x) {k : ℕ} (is : Is (rec
   ult-made e z =
       let L = ult-law w A B (t .net) w-small in
       rw e
-      (two (ofBit (ultWords w A B (t .net))) (4 * w + 1) (λ p q. bit (ltb p q)) (ap usesA e) (ap usesB e) (rw e) (rw e) (z .word) (z .same) (L .ext)
+      (two (ofBit (ultWords w A B (t .net))) (4 * w + 1) (λ p q. bit (ltb p q)) (ap usesA e) (ap usesB e) (λ q. omega arith) (rw e) (z .word) (z .same) (L .ext)
       (λ a o. rw (wide-one (z .one)) (num-bit a (ultWords w A B (t .net) .bit) ∙ ap bit (L .value a o)))
       (at-ult (S .addrs) d x oa ob oc _ i e))

@@ -32,18 +32,11 @@ use Rattle.lowering.specs.Own.{fresh, readWord}
 use Rattle.lowering.specs.Lower.{recipe}
 use Rattle.lowering.specs.Meaning.{slotOf, meaning}
 use Rattle.lowering.proofs.Places.{word-wide, memory-wide, memory-words, bits-words}
+use Rattle.lowering.proofs.MemoryLaws.{ReadsOwed}
 use Rattle.lowering.proofs.MeaningPlaces.{Sheeted, place-in, word-bit}
 use Rattle.lowering.proofs.Meaning.{Evaluated, right-says}
 use Rattle.lowering.proofs.RightWords.{Operable, WordMade}
 use Rattle.lowering.proofs.RightOperands.{sound, a-is, b-is, a-right, b-right, word-says, word-made}
-
--- the law of the words that are read
-abbrev pub Reads : Type 0
-Reads = (n w : ℕ) (addrs mem adr : List ℕ) → Listed n w addrs → 1 ≤ w → w ≤ 64 → (s : Word) → w ≤ length (s .out) → ReadLaw n w addrs mem adr s (readWords n w addrs mem adr s)
-
--- the listed addresses of a table without fault
-pub listed-good : (S : Source) → Sheeted S → Listed (listed S) (S .word) (S .addrs)
-listed-good S clear = record { small = address-small (S .table) (S .addrs) (S .word) clear; distinct = distinct (S .table) (S .addrs) (S .word) clear }
 
 -- word i of a memory's bits, taken whole and as a word
 pub part-num : (S : Source) (n : List ℕ) (y : ℕ) → 1 ≤ y → (i : ℕ) → i < wordsOf S y → (e : Assign) → wordNum e (allAt S n y) i (wideOf S y) ≡ num e (wordAt S n y i) (wideOf S y)
@@ -86,14 +79,14 @@ module _ {S : Source} {x : List ℕ} (v : Evaluated S x) {k : ℕ} (is : Is (rec
   place = word.listed (S .addrs) (getD x ob 0)
 
   -- an address is a word of width W, and says its value
-  pub address-says : usesB (d .kind) ≡ true → eqb (d .kind) ITE ≡ false → widthOf (S .table) (d .b) ≡ S .word → (m n : List ℕ) (e : Assign) → Operable S x k m e n
+  pub address-says : usesB (d .kind) ≡ true → (d .kind ≡ ITE → ⊥) → widthOf (S .table) (d .b) ≡ S .word → (m n : List ℕ) (e : Assign) → Operable S x k m e n
       → num e (wordAt S n (d .b) 0) (S .word) ≡ getD x ob 0
   address-says ub ni q m n e o =
       let h : 1 ≤ widthOf (S .table) (d .b) = omega (arith, W-range .0) in
       let w : wideOf S (d .b) ≡ S .word = word-wide S (d .b) h ∙ q in
       ap (λ z. num e (wordAt S n (d .b) 0) z) (sym w) ∙ word-says v is (b-is v is ub) h e n (b-right v is m n e o ni ub)
 
-  pub read-made : Reads → d .kind ≡ READ → d .width ≡ S .word → widthOf (S .table) (d .a) ≡ 0 → widthOf (S .table) (d .b) ≡ S .word → (m : List ℕ) (i : ℕ) (t : Core) → i < wordsOf S k
+  pub read-made : ReadsOwed S → d .kind ≡ READ → d .width ≡ S .word → widthOf (S .table) (d .a) ≡ 0 → widthOf (S .table) (d .b) ≡ S .word → (m : List ℕ) (i : ℕ) (t : Core) → i < wordsOf S k
       → WordMade S x k m i t (readWord S k i t)
   unfolding readWord readValue
   read-made reads e hw ha hb m i t lt =
@@ -110,7 +103,7 @@ module _ {S : Source} {x : List ℕ} (v : Evaluated S x) {k : ℕ} (is : Is (rec
       out = readWords (listed S) (S .word) (S .addrs) mem adr (fresh (t .net)) .out
 
       L : ReadLaw (listed S) (S .word) (S .addrs) mem adr (fresh (t .net)) (readWords (listed S) (S .word) (S .addrs) mem adr (fresh (t .net)))
-      L = reads (listed S) (S .word) (S .addrs) mem adr (listed-good S (v .clear)) (W-range .0) (W-range .1) (fresh (t .net)) (omega (arith, blank-long, W-range .1))
+      L = reads mem adr (t .net)
 
       ua : 1 ≤ d .a
       ua = sound v is .operands .a-used (ap usesA e)
@@ -127,10 +120,10 @@ module _ {S : Source} {x : List ℕ} (v : Evaluated S x) {k : ℕ} (is : Is (rec
       said : (h : Assign) → Considered (meaning S x) (readWords (listed S) (S .word) (S .addrs) mem adr (fresh (t .net)) .net) h → Operable S x k m h (t .map) → Dec (place < listed S)
           → num h out (S .word) ≡ readValue (S .addrs) x oa place
       said h ce o (yes p) =
-          let q : getD (S .addrs) place 0 ≡ num h adr (S .word) = at-place (S .addrs) (getD x ob 0) p ∙ sym (address-says (ap usesB e) (rw e) hb m (t .map) h o) in
+          let q : getD (S .addrs) place 0 ≡ num h adr (S .word) = at-place (S .addrs) (getD x ob 0) p ∙ sym (address-says (ap usesB e) (λ q. omega arith) hb m (t .map) h o) in
           let r : wordNum h mem place (wideOf S (d .a)) ≡ slotOf S x (d .a) place =
           part-num S (t .map) (d .a) ua place (rw na p) h ∙ right-says v (a-is v is ua) {i = place} (rw na p) h (t .map) (a-right v is m (t .map) h o ua) in
           L .hit h (ce .obeys) place p q ∙ ((rw wa at r) ∙ sym (pick-true _ _ _ (lt-ltb place (listed S) p)))
       said h ce o (no p) =
-          L .miss h (ce .obeys) (λ j l q. no-place (S .addrs) (getD x ob 0) (omega arith) j l (q ∙ address-says (ap usesB e) (rw e) hb m (t .map) h o))
+          L .miss h (ce .obeys) (λ j l q. no-place (S .addrs) (getD x ob 0) (omega arith) j l (q ∙ address-says (ap usesB e) (λ q. omega arith) hb m (t .map) h o))
           ∙ sym (pick-false _ _ _ (le-ltb place (listed S) (omega arith)))

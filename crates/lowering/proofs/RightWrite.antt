@@ -37,15 +37,12 @@ use Rattle.lowering.specs.Lower.{recipe}
 use Rattle.lowering.specs.Meaning.{slotOf, valueOf, meaning}
 use Rattle.lowering.proofs.Places.{word-wide, memory-wide, memory-words, bits-words, off-inside}
 use Rattle.lowering.proofs.ShareLaws.{same-wide, same-words}
+use Rattle.lowering.proofs.MemoryLaws.{WritesOwed}
 use Rattle.lowering.proofs.MeaningPlaces.{Sheeted, wide-range, place-in, word-bit}
 use Rattle.lowering.proofs.Meaning.{Evaluated, value-at}
 use Rattle.lowering.proofs.RightWords.{Operable, WordSays, WordsSay, words-made, considered-back, inputs-trans, inputs-bound}
 use Rattle.lowering.proofs.RightOperands.{sound, a-is, c-is, a-right, c-right, word-says}
-use Rattle.lowering.proofs.RightRead.{listed-good, part-num, at-place, W-range, address-says}
-
--- the law of the words that are written
-abbrev pub Writes : Type 0
-Writes = (n w : ℕ) (addrs adr val mem : List ℕ) → Listed n w addrs → 1 ≤ w → w ≤ 64 → n * w ≤ length mem → (s : Net) → WriteLaw n w addrs adr val (record { net = s; out = mem }) (writeWords n w addrs adr val (record { net = s; out = mem }))
+use Rattle.lowering.proofs.RightRead.{part-num, at-place, W-range, address-says}
 
 -- the place of an address is i exactly if it is listed there
 place-is : (S : Source) → Sheeted S → (a i : ℕ) → i < listed S → eqb i (word.listed (S .addrs) a) ≡ eqb (getD (S .addrs) i 0) a
@@ -59,7 +56,7 @@ place-is S clear a i lt = go (ℕ-discrete (getD (S .addrs) i 0) a)
         ne-eqb i (word.listed (S .addrs) a) (λ p. q (ap (λ n. getD (S .addrs) n 0) p ∙ at-place (S .addrs) a (omega arith)))
         ∙ sym (ne-eqb (getD (S .addrs) i 0) a q)
 
-module _ {S : Source} {x : List ℕ} (v : Evaluated S x) {k : ℕ} (writes : Writes) (e : nodeOf S k .kind ≡ WRITE) (hw : nodeOf S k .width ≡ 0) (ha : widthOf (S .table) (nodeOf S k .a) ≡ 0)
+module _ {S : Source} {x : List ℕ} (v : Evaluated S x) {k : ℕ} (writes : WritesOwed S) (e : nodeOf S k .kind ≡ WRITE) (hw : nodeOf S k .width ≡ 0) (ha : widthOf (S .table) (nodeOf S k .a) ≡ 0)
     (hb : widthOf (S .table) (nodeOf S k .b) ≡ S .word) (hc : widthOf (S .table) (nodeOf S k .c) ≡ S .word) (s : Core) (ready : Ready (recipe S) k s) where
   abbrev W : ℕ
   W = S .word
@@ -141,7 +138,7 @@ module _ {S : Source} {x : List ℕ} (v : Evaluated S x) {k : ℕ} (writes : Wri
   y = writeWords n W (S .addrs) adr val (record { net = t .net; out = mem })
 
   L : WriteLaw n W (S .addrs) adr val (record { net = t .net; out = mem }) y
-  L = writes n W (S .addrs) adr val mem (listed-good S (v .clear)) (W-range v is .0) (W-range v is .1) mem-long (t .net)
+  L = writes adr val mem (t .net) mem-long
 
   abbrev oa : ℕ
   oa = offset (S .table) (S .addrs) (nodeOf S k .a)
@@ -157,7 +154,7 @@ module _ {S : Source} {x : List ℕ} (v : Evaluated S x) {k : ℕ} (writes : Wri
       let u : usesC (nodeOf S k .kind) ≡ true = ap usesC e in
       let l : 1 ≤ widthOf (S .table) (nodeOf S k .c) = omega (arith, W-range v is .0) in
       let w : wideOf S (nodeOf S k .c) ≡ W = word-wide S (nodeOf S k .c) l ∙ hc in
-      ap (λ z. num h val z) (sym w) ∙ word-says v is (c-is v is u) l h (s .map) (c-right v is (s .map) (s .map) h o (rw e) u)
+      ap (λ z. num h val z) (sym w) ∙ word-says v is (c-is v is u) l h (s .map) (c-right v is (s .map) (s .map) h o (λ q. omega arith) u)
 
   written : (i : ℕ) → i < wordsOf S k → slotOf S x k i ≡ pick (eqb (getD (S .addrs) i 0) (getD x ob 0)) (getD x oc 0) (slotOf S x (nodeOf S k .a) i)
   unfolding writeValue
@@ -171,7 +168,7 @@ module _ {S : Source} {x : List ℕ} (v : Evaluated S x) {k : ℕ} (writes : Wri
   new-says : (h : Assign) → Considered (meaning S x) (y .net) h → Operable S x k (s .map) h (s .map) → (i : ℕ) → i < wordsOf S k → wordNum h (y .out) i (wideOf S k) ≡ slotOf S x k i
   new-says h ce o i lt =
       let ct : Considered (meaning S x) (t .net) h = considered-back (meaning S x) (t .net) (y .net) (n * (5 * W - 1)) h (L .ext .grows) ce in
-      let a : num h adr W ≡ getD x ob 0 = address-says v is (ap usesB e) (rw e) hb (s .map) (s .map) h o in
+      let a : num h adr W ≡ getD x ob 0 = address-says v is (ap usesB e) (λ q. omega arith) hb (s .map) (s .map) h o in
       let p : wordNum h (y .out) i W ≡ pick (eqb (getD (S .addrs) i 0) (num h adr W)) (num h val W) (wordNum h mem i W) = L .value h (ce .obeys) i (rw nk at lt) in
       let q : wordNum h (y .out) i W ≡ pick (eqb (getD (S .addrs) i 0) (getD x ob 0)) (getD x oc 0) (slotOf S x (nodeOf S k .a) i) = rw (a, value-says h o, old-says h ct o i lt) at p in
       ap (λ z. wordNum h (y .out) i z) wk ∙ (q ∙ sym (written i lt))
