@@ -10,7 +10,7 @@ use Rattle.table.specs.Node.{nodes, given}
 use Rattle.table.specs.Size.{nodeSize}
 use Rattle.values.specs.declared.Answer.the-variants.{Done}
 use Rattle.values.specs.Value.{slotValue}
-use Rattle.values.specs.Eval.{slots, offset, slotWidth, evalWords}
+use Rattle.values.specs.Eval.{slots, slotWidth, evalWords}
 use Rattle.values.specs.Frame.{Valued, InRange}
 use Rattle.values.proofs.Kept.{finished}
 use Rattle.values.proofs.Local.{done-right}
@@ -21,14 +21,14 @@ use Rattle.words.proofs.NumLaws.{right-num, num-right}
 use Rattle.visits.specs.Claims.{Is, Right}
 use Rattle.lowering.specs.Source.{Source, nodeOf, wordsOf, wideOf, wordAt}
 use Rattle.lowering.specs.Lower.{recipe}
-use Rattle.lowering.specs.Meaning.{slotOf, isOne, valueOf, meaning}
+use Rattle.lowering.specs.Meaning.{slotFrom, slotOf, isOne, valueOf, meaning}
 use Rattle.lowering.proofs.Places.{bits-words}
 use Rattle.lowering.proofs.MeaningPlaces.{Sheeted, word-bit, place-in}
 
 -- slot j of node k, worked out from the slots of its operands
 abbrev pub workedOut : Source → List ℕ → ℕ → ℕ → ℕ
 workedOut S x k j =
-    slotValue (S .addrs) (nodeOf S k) x (offset (S .table) (S .addrs) (nodeOf S k .a)) (offset (S .table) (S .addrs) (nodeOf S k .b)) (offset (S .table) (S .addrs) (nodeOf S k .c)) j
+    slotValue (S .addrs) (nodeOf S k) x (slotFrom S (nodeOf S k .a)) (slotFrom S (nodeOf S k .b)) (slotFrom S (nodeOf S k .c)) j
 
 -- x has the values of a table without fault
 pub record Evaluated (S : Source) (x : List ℕ) : Type 0 where

@@ -11,9 +11,10 @@ use Rattle.loops.specs.Loop.{pick}
 use Rattle.table.specs.declared.Fault.the-variants.{Clear}
 use Rattle.table.specs.Node.{widthOf}
 use Rattle.table.specs.Sheet.{tableFault}
-use Rattle.table.proofs.Whole.{within, fine}
+use Rattle.table.proofs.Whole.{address-small, distinct, within, fine}
 use Rattle.values.specs.Eval.{slots}
-use Rattle.lowering.specs.Source.{Source, wideOf, offOf, wordAt}
+use Rattle.memory.specs.Address.{Listed}
+use Rattle.lowering.specs.Source.{Source, listed, wideOf, offOf, wordAt}
 
 -- a table without fault
 abbrev pub Sheeted : Source → Type 0
@@ -41,3 +42,7 @@ module _ (S : Source) (clear : Sheeted S) where
   pub wide-range : (k : ℕ) → (1 ≤ wideOf S k) × (wideOf S k ≤ 64)
   unfolding wideOf
   wide-range k = by-width (widthOf (S .table) k) (fine (S .table) (S .addrs) (S .word) clear .narrow k) (eqb (widthOf (S .table) k) 0) refl
+
+  -- the listed addresses are as the memory's laws ask for them
+  pub listed-good : Listed (listed S) (S .word) (S .addrs)
+  listed-good = record { small = address-small (S .table) (S .addrs) (S .word) clear; distinct = distinct (S .table) (S .addrs) (S .word) clear }

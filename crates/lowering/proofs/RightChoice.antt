@@ -2,7 +2,7 @@
 use mathlib.Core.Path.{_≡_, refl, ap, ap₂, sym, _∙_}
 use mathlib.Core.List.{List}
 use mathlib.Core.Bool.{Bool, true, false}
-use Prim.Native.Nat.{ℕ, zero, suc, _+_, _*_, _^_, _≤_, _<_}
+use Prim.Native.Nat.{ℕ, zero, suc, _+_, _≤_, _<_}
 use native.Mathlib.Omega.{arith}
 use lib.Dec.{eqb}
 use lib.ListN.{getD}
@@ -12,7 +12,6 @@ use Rattle.table.specs.declared.Node.{Node}
 use Rattle.table.specs.Kind.{ITE, usesA, usesB, usesC}
 use Rattle.table.specs.Node.{widthOf}
 use Rattle.values.specs.Value.{iteValue}
-use Rattle.values.specs.Eval.{offset}
 use Rattle.values.proofs.ByKind.{at-ite}
 use Rattle.netlist.specs.Bit.{isKnown}
 use Rattle.netlist.specs.Net.{Assign}
@@ -20,28 +19,21 @@ use Rattle.netlist.proofs.BitLaws.{known-less, unknown-least}
 use Rattle.words.specs.declared.each.Bitwise.the-variants as op
 use Rattle.words.specs.Num.{num}
 use Rattle.words.specs.Each.{bitValue, eachBit, eachCost, EachLaw}
-use Rattle.words.proofs.NumLaws.{num-suc, num-none, num-choose, blank-long}
+use Rattle.words.proofs.NumLaws.{num-choose, blank-long}
 use Rattle.words.proofs.EachLaws.{each-law}
 use Rattle.visits.specs.Flow.{Core}
 use Rattle.visits.specs.Claims.{Is, Right, Considered}
 use Rattle.lowering.specs.Source.{Source, nodeOf, wordsOf, wideOf, wordAt, conditionOf, secondOf, thirdOf}
 use Rattle.lowering.specs.Own.{fresh, shareWord, chooseWord}
 use Rattle.lowering.specs.Lower.{recipe}
-use Rattle.lowering.specs.Meaning.{slotOf, meaning}
+use Rattle.lowering.specs.Meaning.{slotFrom, slotOf, meaning}
 use Rattle.lowering.proofs.Places.{word-wide}
 use Rattle.lowering.proofs.ShareLaws.{same-wide, same-words}
 use Rattle.lowering.proofs.MeaningPlaces.{wide-range}
 use Rattle.lowering.proofs.Meaning.{Evaluated, right-says}
-use Rattle.lowering.proofs.RightWords.{Operable, WordMade}
-use Rattle.lowering.proofs.RightOperands.{sound, a-is, b-is, c-is, a-right, word-says, word-made}
+use Rattle.lowering.proofs.RightWords.{Operable, OwnWord}
+use Rattle.lowering.proofs.RightOperands.{bit-one, num-one, sound, a-is, b-is, c-is, a-right, word-says, word-made}
 use Rattle.lowering.proofs.RightShare.{share-made}
-
-bit-one : (b : Bool) → eqb (bit b) 1 ≡ b
-bit-one true = refl
-bit-one false = refl
-
-num-one : (e : Assign) (bs : List ℕ) → num e bs 1 ≡ bit (e (getD bs 0 0))
-num-one e bs = let n : num e bs 1 ≡ num e bs 0 + 2 ^ 0 * bit (e (getD bs 0 0)) = num-suc e bs 0 in omega (arith, num-none e bs)
 
 -- the chosen slot, by the condition's value
 ite-true : (x : List ℕ) (a b c j : ℕ) → eqb (getD x a 0) 1 ≡ true → iteValue x a b c j ≡ getD x (b + j) 0
@@ -62,13 +54,13 @@ module _ {S : Source} {x : List ℕ} (v : Evaluated S x) {k : ℕ} (is : Is (rec
   d = nodeOf S k
 
   abbrev oa : ℕ
-  oa = offset (S .table) (S .addrs) (d .a)
+  oa = slotFrom S (d .a)
 
   abbrev ob : ℕ
-  ob = offset (S .table) (S .addrs) (d .b)
+  ob = slotFrom S (d .b)
 
   abbrev oc : ℕ
-  oc = offset (S .table) (S .addrs) (d .c)
+  oc = slotFrom S (d .c)
 
   -- the condition's bit says its value
   condition-says : (m n : List ℕ) (h : Assign) → Operable S x k m h n → eqb (getD x oa 0) 1 ≡ h (conditionOf S n k)
@@ -94,7 +86,7 @@ module _ {S : Source} {x : List ℕ} (v : Evaluated S x) {k : ℕ} (is : Is (rec
 
   module _ (m : List ℕ) (i : ℕ) (t : Core) (lt : i < wordsOf S k) where
     side-made : (y : ℕ) → Is (recipe S) y → widthOf (S .table) y ≡ d .width → secondOf S m k ≡ y
-        → ((h : Assign) → Considered (meaning S x) (t .net) h → Operable S x k m h m → iteValue x oa ob oc i ≡ slotOf S x y i) → WordMade S x k m i t (shareWord S (secondOf S m k) i t)
+        → ((h : Assign) → Considered (meaning S x) (t .net) h → Operable S x k m h m → iteValue x oa ob oc i ≡ slotOf S x y i) → OwnWord S x k m i t (shareWord S (secondOf S m k) i t)
     side-made y iy same q says =
         rw q
         (share-made v is m i t lt y iy (rw (same-words S y k same) lt) (omega (arith, same-wide S y k same))
@@ -102,7 +94,7 @@ module _ {S : Source} {x : List ℕ} (v : Evaluated S x) {k : ℕ} (is : Is (rec
         let r : Right (recipe S) (meaning S x) h (t .map) (secondOf S m k) = o .second (λ z. omega (arith, iy .low)) in
         (rw q at r, v .made k i is lt (rw e) ∙ (at-ite (S .addrs) d x oa ob oc _ i e ∙ says h ce before))))
 
-    by-condition : (c : ℕ) → conditionOf S m k ≡ c → c < 2 → WordMade S x k m i t (shareWord S (secondOf S m k) i t)
+    by-condition : (c : ℕ) → conditionOf S m k ≡ c → c < 2 → OwnWord S x k m i t (shareWord S (secondOf S m k) i t)
     by-condition zero q l =
         side-made (d .c) (c-is v is (ap usesC e)) right (second-false m q)
         (λ h ce before. ite-false x oa ob oc i (condition-says m m h before ∙ (ap h q ∙ ce .obeys .low)))
@@ -111,7 +103,7 @@ module _ {S : Source} {x : List ℕ} (v : Evaluated S x) {k : ℕ} (is : Is (rec
         (λ h ce before. ite-true x oa ob oc i (condition-says m m h before ∙ (ap h q ∙ ce .obeys .high)))
     by-condition (suc (suc c)) q l = absurd (omega arith)
 
-    pub known-made : isKnown (conditionOf S m k) ≡ true → WordMade S x k m i t (shareWord S (secondOf S m k) i t)
+    pub known-made : isKnown (conditionOf S m k) ≡ true → OwnWord S x k m i t (shareWord S (secondOf S m k) i t)
     known-made z = by-condition (conditionOf S m k) refl (known-less (conditionOf S m k) z)
 
     abbrev c : ℕ
@@ -123,7 +115,7 @@ module _ {S : Source} {x : List ℕ} (v : Evaluated S x) {k : ℕ} (is : Is (rec
     abbrev C : List ℕ
     C = wordAt S (t .map) (d .c) i
 
-    pub choose-made : isKnown (conditionOf S m k) ≡ false → WordMade S x k m i t (chooseWord S k i t)
+    pub choose-made : isKnown (conditionOf S m k) ≡ false → OwnWord S x k m i t (chooseWord S k i t)
     unfolding chooseWord bitValue
     choose-made z =
         let L : EachLaw (op.Choose c) B C (fresh (t .net)) (wideOf S k) (eachBit (op.Choose c) B C (wideOf S k) (fresh (t .net))) =

@@ -7,7 +7,7 @@ use Prim.Native.Nat.{ℕ, zero, _+_, _-_, _*_, _/_, _%_, _^_, _≤_, _<_}
 use native.Mathlib.Omega.{arith}
 use native.Mathlib.Decide.{decLt}
 use lib.Dec.{eqb}
-use lib.ListN.{length, getD}
+use lib.ListN.{getD}
 use borrow.Author.Tests.{eqb-true, ne-eqb}
 use Rattle.loops.specs.Loop.{pick, bit}
 use Rattle.loops.proofs.Loop.{by-pick, pick-true, pick-false, both, either}
@@ -17,7 +17,6 @@ use Rattle.table.specs.Node.{widthOf, given}
 use Rattle.table.specs.Ceiling.{divConstraints, constraintCeiling, nodeConstraints}
 use Rattle.table.proofs.Whole.{Even}
 use Rattle.values.specs.Value.{divWord, remWord}
-use Rattle.values.specs.Eval.{offset}
 use Rattle.values.proofs.ByKind.{at-divu, at-rem}
 use Rattle.netlist.specs.Record.{gateAt, Room}
 use Rattle.netlist.specs.Kind.{free}
@@ -32,7 +31,7 @@ use Rattle.words.proofs.EachLaws.{put-law}
 use Rattle.division.specs.Constraint.{consOf, conGate, conValue, ConRoom, Holds, Within}
 use Rattle.division.specs.Rows.{Checked}
 use Rattle.division.specs.Check.{Book, Divides, conCount}
-use Rattle.division.specs.Known.{divuOf, remOf, answerOf, knownWord, KnownLaw}
+use Rattle.division.specs.Known.{divuOf, remOf, answerOf, knownWord}
 use Rattle.division.specs.Divide as div
 use Rattle.division.specs.Divide.{divWords, freeWord, divideWords, DivLaw}
 use Rattle.visits.specs.Flow.{Core}
@@ -44,7 +43,7 @@ use Rattle.visits.proofs.Digits.{division}
 use Rattle.lowering.specs.Source.{Source, nodeOf, wordsOf, wideOf, bitsOf, offOf, asksOf, wordAt, blockedOf, secondOf}
 use Rattle.lowering.specs.Own.{divideOwn}
 use Rattle.lowering.specs.Lower.{recipe}
-use Rattle.lowering.specs.Meaning.{slotOf, isOne, valueOf, dividend, divisor, meaning}
+use Rattle.lowering.specs.Meaning.{slotFrom, slotOf, isOne, valueOf, dividend, divisor, meaning}
 use Rattle.lowering.proofs.Places.{word-wide, word-words, bits-words, off-inside}
 use Rattle.lowering.proofs.ShareLaws.{same-wide}
 use Rattle.lowering.proofs.ShapeLaws.{second-else}
@@ -52,7 +51,7 @@ use Rattle.lowering.proofs.DivisionLaws.{DividesOwed, KnownOwed}
 use Rattle.lowering.proofs.MeaningPlaces.{wide-range, word-bit}
 use Rattle.lowering.proofs.Meaning.{Evaluated, right-says, value-at}
 use Rattle.lowering.proofs.RightWords.{Operable}
-use Rattle.lowering.proofs.RightOperands.{slot-word, sound, a-is, b-is, a-right, b-right}
+use Rattle.lowering.proofs.RightOperands.{bit-one, slot-word, sound, a-is, b-is, a-right, b-right}
 
 -- a kind that divides has two operands, and is no ite
 by-kind : (P : ℕ → Type 0) (k : ℕ) → P DIVU → P REM → divides k ≡ true → P k
@@ -74,10 +73,6 @@ half n w h = (n / 2, omega arith, go (decLt (2 * (n / 2)) n))
     go : Dec (2 * (n / 2) < n) → (n ≡ 2 * (n / 2)) ⊎ (n ≡ 2 * (n / 2) + 1)
     go (yes q) = inr (omega arith)
     go (no q) = inl (omega arith)
-
-bit-one : (b : Bool) → eqb (bit b) 1 ≡ b
-bit-one true = refl
-bit-one false = refl
 
 -- constraints that hold are met, and the other way where they are truth values
 holds-met : (e : Assign) (l : List ℕ) (a b : ℕ) → Holds e l a b → (i : ℕ) → a ≤ i → i < b → e (getD l (2 * i) 0) ≡ eqb (getD l (2 * i + 1) 0) 1
@@ -150,13 +145,13 @@ module _ {S : Source} {x : List ℕ} (v : Evaluated S x) {k : ℕ} (gates : Divi
   divu-value : d .kind ≡ DIVU → slotOf S x k 0 ≡ divWord (d .width) (dividend S x k) (divisor S x k)
   divu-value e =
       v .made k 0 is (omega (arith, words-one)) no-given
-      ∙ (at-divu (S .addrs) d x (offset (S .table) (S .addrs) (d .a)) (offset (S .table) (S .addrs) (d .b)) (offset (S .table) (S .addrs) (d .c)) _ 0 e
+      ∙ (at-divu (S .addrs) d x (slotFrom S (d .a)) (slotFrom S (d .b)) (slotFrom S (d .c)) _ 0 e
       ∙ sym (ap₂ (divWord (d .width)) (slot-word S x (d .a)) (slot-word S x (d .b))))
 
   rem-value : d .kind ≡ REM → slotOf S x k 0 ≡ remWord (dividend S x k) (divisor S x k)
   rem-value e =
       v .made k 0 is (omega (arith, words-one)) no-given
-      ∙ (at-rem (S .addrs) d x (offset (S .table) (S .addrs) (d .a)) (offset (S .table) (S .addrs) (d .b)) (offset (S .table) (S .addrs) (d .c)) _ 0 e
+      ∙ (at-rem (S .addrs) d x (slotFrom S (d .a)) (slotFrom S (d .b)) (slotFrom S (d .c)) _ 0 e
       ∙ sym (ap₂ remWord (slot-word S x (d .a)) (slot-word S x (d .b))))
 
   slot-is : slotOf S x k 0 ≡ pick quotient (divWord (d .width) (dividend S x k) (divisor S x k)) (remWord (dividend S x k) (divisor S x k))

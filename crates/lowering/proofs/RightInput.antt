@@ -24,7 +24,7 @@ use Rattle.visits.specs.Flow.{Core}
 use Rattle.lowering.specs.Source.{Source, wideOf}
 use Rattle.lowering.specs.Own.{fresh, inputStep, inputWord}
 use Rattle.lowering.proofs.MeaningPlaces.{Sheeted, wide-range}
-use Rattle.lowering.proofs.RightWords.{WordMade}
+use Rattle.lowering.proofs.RightWords.{OwnWord}
 
 -- the first j bits, from bit `from` of node k on
 pub record InputsLaw (k from : ℕ) (s : Net) (j : ℕ) (y : Word) : Type 0 where
@@ -78,7 +78,7 @@ module _ (k from : ℕ) (s : Net) where
       (record { grows = grows-refl s 0; count = omega arith; long = blank-long; bits = λ q l. absurd (omega arith); gates = λ room q l. absurd (omega arith) })
       (λ j y lt h. inputs-next j y (omega arith) h)
 
-pub input-made : (S : Source) (x : List ℕ) (k : ℕ) (m : List ℕ) (i : ℕ) (t : Core) → Sheeted S → WordMade S x k m i t (inputWord S k i t)
+pub input-made : (S : Source) (x : List ℕ) (k : ℕ) (m : List ℕ) (i : ℕ) (t : Core) → Sheeted S → OwnWord S x k m i t (inputWord S k i t)
 unfolding inputWord
 input-made S x k m i t clear =
     let L = inputs-law k (i * wideOf S k) (t .net) (wideOf S k) (wide-range S clear k .1) in

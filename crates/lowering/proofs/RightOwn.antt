@@ -27,7 +27,7 @@ use Rattle.lowering.proofs.MemoryLaws.{ReadsOwed, WritesOwed}
 use Rattle.lowering.proofs.DivisionLaws.{DividesOwed, KnownOwed}
 use Rattle.lowering.proofs.Places.{sound-of}
 use Rattle.lowering.proofs.Meaning.{Evaluated}
-use Rattle.lowering.proofs.RightWords.{WordMade, words-right}
+use Rattle.lowering.proofs.RightWords.{OwnWord, words-right}
 use Rattle.lowering.proofs.RightPlain.{const-made, not-made, and-made, eq-made, add-made, sub-made, ult-made, mul-made}
 use Rattle.lowering.proofs.RightInput.{input-made}
 use Rattle.lowering.proofs.RightShare.{state-made, bad-made, ext-made}
@@ -93,7 +93,7 @@ module _ {S : Source} {x : List ℕ} (v : Evaluated S x) (reads : ReadsOwed S) (
 
   -- word by word
   each : (f : ℕ → Core → Word) → madeBy S k s ≡ eachWord S k f s → divides (nodeOf S k .kind) ≡ false
-      → ((i : ℕ) (t : Core) → i < wordsOf S k → WordMade S x k (s .map) i t (f i t)) → Good (madeBy S k s)
+      → ((i : ℕ) (t : Core) → i < wordsOf S k → OwnWord S x k (s .map) i t (f i t)) → Good (madeBy S k s)
   each f q nd h = rw q (words-right S x k s f (v .clear) ready nd h)
 
   given-right : divides (nodeOf S k .kind) ≡ false → given (nodeOf S k) ≡ true → Good (madeBy S k s)

@@ -15,7 +15,6 @@ use Rattle.table.specs.Kind.{CONST, ITE, NOT, AND, EQ, ADD, SUB, ULT, MUL, uses
 use Rattle.table.specs.Node.{widthOf, given}
 use Rattle.table.proofs.Whole.{Even, Compared}
 use Rattle.values.specs.Value.{notWord, addWord, subWord, mulWord}
-use Rattle.values.specs.Eval.{offset}
 use Rattle.values.proofs.ByKind.{at-const, at-not, at-and, at-eq, at-add, at-sub, at-ult, at-mul}
 use Rattle.netlist.specs.Net.{Assign, Obeys}
 use Rattle.gates.specs.Law.{Ext}
@@ -30,7 +29,7 @@ use Rattle.words.specs.Add.{addWords, addCost}
 use Rattle.words.specs.Sub.{subWords, subCost, ultWords}
 use Rattle.words.specs.Eq.{eqWords, eqCost}
 use Rattle.words.specs.Mul.{mulWords, mulCost}
-use Rattle.words.proofs.NumLaws.{num-lt, num-suc, num-none, num-not, num-digits, right-num, num-right, blank-long}
+use Rattle.words.proofs.NumLaws.{num-lt, num-not, num-digits, right-num, num-right, blank-long}
 use Rattle.words.proofs.EachLaws.{each-law}
 use Rattle.words.proofs.AddLaws.{add-law, add-value}
 use Rattle.words.proofs.SubLaws.{sub-law, sub-value, ult-law}
@@ -41,22 +40,19 @@ use Rattle.visits.specs.Claims.{Is}
 use Rattle.lowering.specs.Source.{Source, nodeOf, wordsOf, wideOf, wordAt}
 use Rattle.lowering.specs.Own.{fresh, ofBit, ofChain, plainWord, wordOwn}
 use Rattle.lowering.specs.Lower.{recipe}
-use Rattle.lowering.specs.Meaning.{isOne}
+use Rattle.lowering.specs.Meaning.{slotFrom, isOne}
 use Rattle.lowering.proofs.Places.{word-wide}
 use Rattle.lowering.proofs.ShareLaws.{same-wide}
 use Rattle.lowering.proofs.MeaningPlaces.{wide-range}
 use Rattle.lowering.proofs.Meaning.{Evaluated, workedOut}
-use Rattle.lowering.proofs.RightWords.{WordMade}
-use Rattle.lowering.proofs.RightOperands.{sound, a-is, b-is, a-right, b-right, word-says, word-made}
+use Rattle.lowering.proofs.RightWords.{OwnWord}
+use Rattle.lowering.proofs.RightOperands.{num-one, sound, a-is, b-is, a-right, b-right, word-says, word-made}
 
 -- ---- the numbers that are said
 
--- a number of one bit
-pub num-bit : (e : Assign) (b : ℕ) → num e (set blank 0 b) 1 ≡ bit (e b)
-num-bit e b =
-    let q : getD (set blank 0 b) 0 0 ≡ b = getD-set-same blank 0 b 0 (omega (arith, blank-long)) in
-    let n : num e (set blank 0 b) 1 ≡ num e (set blank 0 b) 0 + 2 ^ 0 * bit (e (getD (set blank 0 b) 0 0)) = num-suc e (set blank 0 b) 0 in
-    omega (arith, num-none e (set blank 0 b), ap (λ (c : ℕ). bit (e c)) q)
+-- a word of one bit
+num-bit : (e : Assign) (b : ℕ) → num e (set blank 0 b) 1 ≡ bit (e b)
+num-bit e b = num-one e (set blank 0 b) ∙ ap (λ (c : ℕ). bit (e c)) (getD-set-same blank 0 b 0 (omega (arith, blank-long)))
 
 not-says : (e : Assign) (out A : List ℕ) (w : ℕ) → ((i : ℕ) → i < w → e (getD out i 0) ≡ not (e (getD A i 0))) → num e out w ≡ notWord w (num e A w)
 unfolding notWord
@@ -105,13 +101,13 @@ module _ {S : Source} {x : List ℕ} (v : Evaluated S x) {k : ℕ} (is : Is (rec
   w = wideOf S (d .a)
 
   abbrev oa : ℕ
-  oa = offset (S .table) (S .addrs) (d .a)
+  oa = slotFrom S (d .a)
 
   abbrev ob : ℕ
-  ob = offset (S .table) (S .addrs) (d .b)
+  ob = slotFrom S (d .b)
 
   abbrev Made : Word → Type 0
-  Made y = WordMade S x k m i t y
+  Made y = OwnWord S x k m i t y
 
   -- over one word, and over two of one width
   one : (y : Word) (c : ℕ) (f : ℕ → ℕ) → usesA (d .kind) ≡ true → given d ≡ false → 1 ≤ widthOf (S .table) (d .a) → Ext (t .net) (y .net) c
@@ -143,10 +139,10 @@ module _ {S : Source} {x : List ℕ} (v : Evaluated S x) {k : ℕ} (is : Is (rec
       (λ a ce o.
       let p = digits.put-law (d .imm) (d .width) blank (omega (arith, blank-long, sound v is .narrow)) in
       rw (wide-k h) (num-digits (t .net) a (putDigits (d .imm) (d .width) blank) (d .width) (d .imm) (ce .obeys) g (p .there) (digit-lt (d .imm)))
-      ∙ sym (at-const (S .addrs) d x oa ob (offset (S .table) (S .addrs) (d .c)) _ i e)))
+      ∙ sym (at-const (S .addrs) d x oa ob (slotFrom S (d .c)) _ i e)))
 
   abbrev oc : ℕ
-  oc = offset (S .table) (S .addrs) (d .c)
+  oc = slotFrom S (d .c)
 
   w-small : w ≤ 64
   w-small = wide-range S (v .clear) (d .a) .1

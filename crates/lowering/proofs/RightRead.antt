@@ -1,11 +1,10 @@
 -- The law of values of reads, and what a read's or write's address says.
 use mathlib.Core.Path.{_≡_, ap, sym, _∙_}
 use mathlib.Core.List.{List}
-use mathlib.Core.Bool.{true, false}
+use mathlib.Core.Bool.{true}
 use Prim.Native.Nat.{ℕ, _+_, _-_, _*_, _≤_, _<_}
 use native.Mathlib.Omega.{arith}
 use native.Mathlib.Decide.{decLt}
-use lib.Dec.{eqb}
 use lib.ListN.{length, getD, drop}
 use lib.Seq.{getD-take, getD-drop}
 use borrow.Author.Tests.{eqb-true, eqb-false, lt-ltb, le-ltb}
@@ -14,28 +13,26 @@ use Rattle.table.specs.declared.Node.{Node}
 use Rattle.table.specs.Kind.{ITE, READ, usesA, usesB}
 use Rattle.table.specs.Node.{widthOf}
 use Rattle.table.specs.Sheet.{isAt}
-use Rattle.table.proofs.Whole.{within, address-small, distinct}
+use Rattle.table.proofs.Whole.{within}
 use Rattle.values.specs.Value as word
 use Rattle.values.specs.Value.{readValue}
-use Rattle.values.specs.Eval.{offset}
 use Rattle.values.proofs.ByKind.{at-read, place-access}
 use Rattle.netlist.specs.Net.{Assign}
 use Rattle.words.specs.Num.{num}
-use Rattle.words.specs.Each.{Word}
-use Rattle.words.proofs.NumLaws.{num-same, blank-long}
-use Rattle.memory.specs.Address.{Listed, wordNum}
+use Rattle.words.proofs.NumLaws.{num-same}
+use Rattle.memory.specs.Address.{wordNum}
 use Rattle.memory.specs.Read.{readWords, ReadLaw}
 use Rattle.visits.specs.Flow.{Core}
 use Rattle.visits.specs.Claims.{Is, Considered}
 use Rattle.lowering.specs.Source.{Source, listed, nodeOf, wordsOf, wideOf, bitsOf, offOf, wordAt, allAt}
 use Rattle.lowering.specs.Own.{fresh, readWord}
 use Rattle.lowering.specs.Lower.{recipe}
-use Rattle.lowering.specs.Meaning.{slotOf, meaning}
+use Rattle.lowering.specs.Meaning.{slotFrom, slotOf, meaning}
 use Rattle.lowering.proofs.Places.{word-wide, memory-wide, memory-words, bits-words}
 use Rattle.lowering.proofs.MemoryLaws.{ReadsOwed}
-use Rattle.lowering.proofs.MeaningPlaces.{Sheeted, place-in, word-bit}
+use Rattle.lowering.proofs.MeaningPlaces.{place-in, word-bit}
 use Rattle.lowering.proofs.Meaning.{Evaluated, right-says}
-use Rattle.lowering.proofs.RightWords.{Operable, WordMade}
+use Rattle.lowering.proofs.RightWords.{Operable, OwnWord}
 use Rattle.lowering.proofs.RightOperands.{sound, a-is, b-is, a-right, b-right, word-says, word-made}
 
 -- word i of a memory's bits, taken whole and as a word
@@ -63,13 +60,13 @@ module _ {S : Source} {x : List ℕ} (v : Evaluated S x) {k : ℕ} (is : Is (rec
   d = nodeOf S k
 
   abbrev oa : ℕ
-  oa = offset (S .table) (S .addrs) (d .a)
+  oa = slotFrom S (d .a)
 
   abbrev ob : ℕ
-  ob = offset (S .table) (S .addrs) (d .b)
+  ob = slotFrom S (d .b)
 
   abbrev oc : ℕ
-  oc = offset (S .table) (S .addrs) (d .c)
+  oc = slotFrom S (d .c)
 
   pub W-range : (1 ≤ S .word) × (S .word ≤ 64)
   W-range = let q = within (S .table) (S .addrs) (S .word) (v .clear) in (q .3, q .4)
@@ -87,7 +84,7 @@ module _ {S : Source} {x : List ℕ} (v : Evaluated S x) {k : ℕ} (is : Is (rec
       ap (λ z. num e (wordAt S n (d .b) 0) z) (sym w) ∙ word-says v is (b-is v is ub) h e n (b-right v is m n e o ni ub)
 
   pub read-made : ReadsOwed S → d .kind ≡ READ → d .width ≡ S .word → widthOf (S .table) (d .a) ≡ 0 → widthOf (S .table) (d .b) ≡ S .word → (m : List ℕ) (i : ℕ) (t : Core) → i < wordsOf S k
-      → WordMade S x k m i t (readWord S k i t)
+      → OwnWord S x k m i t (readWord S k i t)
   unfolding readWord readValue
   read-made reads e hw ha hb m i t lt =
       word-made v is (listed S * (4 * S .word - 1)) lt (rw e) (L .ext)

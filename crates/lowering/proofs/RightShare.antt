@@ -9,7 +9,6 @@ use lib.Seq.{getD-drop}
 use Rattle.table.specs.declared.Node.{Node}
 use Rattle.table.specs.Kind.{STATE, BAD, EXT, usesA}
 use Rattle.table.specs.Node.{widthOf, given}
-use Rattle.values.specs.Eval.{offset}
 use Rattle.values.proofs.ByKind.{at-state, at-bad, at-ext}
 use Rattle.netlist.specs.Net.{Assign}
 use Rattle.gates.proofs.Laws.{grows-refl}
@@ -25,12 +24,12 @@ use Rattle.visits.specs.Claims.{Is, Right, Considered}
 use Rattle.lowering.specs.Source.{Source, nodeOf, wordsOf, wideOf, wordAt}
 use Rattle.lowering.specs.Own.{shareWord}
 use Rattle.lowering.specs.Lower.{recipe}
-use Rattle.lowering.specs.Meaning.{slotOf, meaning}
+use Rattle.lowering.specs.Meaning.{slotFrom, slotOf, meaning}
 use Rattle.lowering.proofs.Places.{word-wide, word-words}
 use Rattle.lowering.proofs.ShareLaws.{same-wide, same-words}
 use Rattle.lowering.proofs.MeaningPlaces.{wide-range}
 use Rattle.lowering.proofs.Meaning.{Evaluated, right-says, says-right}
-use Rattle.lowering.proofs.RightWords.{Operable, WordMade}
+use Rattle.lowering.proofs.RightWords.{Operable, OwnWord}
 use Rattle.lowering.proofs.RightOperands.{slot-word, sound, a-is, a-right}
 
 -- above a word stands known false, so it says the same number in a wider one
@@ -49,7 +48,7 @@ module _ {S : Source} {x : List ℕ} (v : Evaluated S x) {k : ℕ} (is : Is (rec
   -- word i of the node y is shared: enough that it is word i's value
   pub share-made : (y : ℕ) → Is (recipe S) y → i < wordsOf S y → wideOf S y ≤ wideOf S k
       → ((e : Assign) → Considered (meaning S x) (t .net) e → Operable S x k m e m → Operable S x k m e (t .map) → Right (recipe S) (meaning S x) e (t .map) y × (slotOf S x k i ≡ slotOf S x y i))
-      → WordMade S x k m i t (shareWord S y i t)
+      → OwnWord S x k m i t (shareWord S y i t)
   unfolding shareWord
   share-made y iy ly wy says =
       record {
@@ -67,34 +66,34 @@ module _ {S : Source} {x : List ℕ} (v : Evaluated S x) {k : ℕ} (is : Is (rec
   d = nodeOf S k
 
   abbrev oa : ℕ
-  oa = offset (S .table) (S .addrs) (d .a)
+  oa = slotFrom S (d .a)
 
   abbrev ob : ℕ
-  ob = offset (S .table) (S .addrs) (d .b)
+  ob = slotFrom S (d .b)
 
   abbrev oc : ℕ
-  oc = offset (S .table) (S .addrs) (d .c)
+  oc = slotFrom S (d .c)
 
-  pub state-made : d .kind ≡ STATE → given d ≡ false → 1 ≤ d .a → widthOf (S .table) (d .a) ≡ d .width → WordMade S x k m i t (shareWord S (d .a) i t)
+  pub state-made : d .kind ≡ STATE → given d ≡ false → 1 ≤ d .a → widthOf (S .table) (d .a) ≡ d .width → OwnWord S x k m i t (shareWord S (d .a) i t)
   state-made e g u same =
       share-made (d .a) (a-is v is u) (rw (same-words S (d .a) k same) lt) (omega (arith, same-wide S (d .a) k same))
       (λ a ce before o. (a-right v is m (t .map) a o u, v .made k i is lt g ∙ at-state (S .addrs) d x oa ob oc _ i e))
 
   -- a word of a word
   one-made : 1 ≤ d .a → given d ≡ false → 1 ≤ d .width → 1 ≤ widthOf (S .table) (d .a) → widthOf (S .table) (d .a) ≤ d .width
-      → slotOf S x k i ≡ getD x oa 0 → WordMade S x k m i t (shareWord S (d .a) i t)
+      → slotOf S x k i ≡ getD x oa 0 → OwnWord S x k m i t (shareWord S (d .a) i t)
   one-made u g h ha le at =
       let z : i ≡ 0 = omega (arith, word-words S k h) in
       let r : slotOf S x (d .a) 0 ≡ getD x oa 0 = slot-word S x (d .a) in
       share-made (d .a) (a-is v is u) (omega (arith, word-words S (d .a) ha, word-words S k h)) (omega (arith, word-wide S k h, word-wide S (d .a) ha))
       (λ a ce before o. (a-right v is m (t .map) a o u, at ∙ (sym r ∙ ap (λ n. slotOf S x (d .a) n) (sym z))))
 
-  pub bad-made : d .kind ≡ BAD → d .width ≡ 1 → widthOf (S .table) (d .a) ≡ 1 → WordMade S x k m i t (shareWord S (d .a) i t)
+  pub bad-made : d .kind ≡ BAD → d .width ≡ 1 → widthOf (S .table) (d .a) ≡ 1 → OwnWord S x k m i t (shareWord S (d .a) i t)
   bad-made e h ha =
       one-made (sound v is .operands .a-used (ap usesA e)) (rw e) (omega arith) (omega arith) (omega arith)
       (v .made k i is lt (rw e) ∙ at-bad (S .addrs) d x oa ob oc _ i e)
 
-  pub ext-made : d .kind ≡ EXT → d .width ≡ 64 → 1 ≤ widthOf (S .table) (d .a) → WordMade S x k m i t (shareWord S (d .a) i t)
+  pub ext-made : d .kind ≡ EXT → d .width ≡ 64 → 1 ≤ widthOf (S .table) (d .a) → OwnWord S x k m i t (shareWord S (d .a) i t)
   ext-made e h ha =
       one-made (sound v is .operands .a-used (ap usesA e)) (rw e) (omega arith) ha (omega (arith, word-wide S (d .a) ha, wide-range S (v .clear) (d .a) .1))
       (v .made k i is lt (rw e) ∙ at-ext (S .addrs) d x oa ob oc _ i e)

@@ -64,8 +64,8 @@ pub record WordSays (S : Source) (x : List ℕ) (k : ℕ) (val : ℕ → Bool) (
   pub right : (e : Assign) → Considered (meaning S x) (y .net) e → Operable S x k m e m → Operable S x k m e (t .map) → (j : ℕ) → j < wideOf S k → e (getD (y .out) j 0) ≡ val (i * wideOf S k + j)
 
 -- the node's own value
-abbrev pub WordMade : Source → List ℕ → ℕ → List ℕ → ℕ → Core → Word → Type 0
-WordMade S x k m i t y = WordSays S x k (valueOf S x k) m i t y
+abbrev pub OwnWord : Source → List ℕ → ℕ → List ℕ → ℕ → Core → Word → Type 0
+OwnWord S x k m i t y = WordSays S x k (valueOf S x k) m i t y
 
 module _ (S : Source) (x : List ℕ) (k : ℕ) (clear : Sheeted S) (is : Is (recipe S) k) where
   -- bits below a node's own are right where they were
@@ -156,7 +156,7 @@ module _ (S : Source) (x : List ℕ) (k : ℕ) (val : ℕ → Bool) (s : Core) (
   words-made = iter-inv (WordsSay S x k val s) (wordStep S k f) s (wordsOf S k) words-none words-next
 
 pub words-right : (S : Source) (x : List ℕ) (k : ℕ) (s : Core) (f : ℕ → Core → Word) → Sheeted S → Ready (recipe S) k s → divides (nodeOf S k .kind) ≡ false
-    → ((i : ℕ) (t : Core) → i < wordsOf S k → WordMade S x k (s .map) i t (f i t)) → StepRight (recipe S) (meaning S x) k s (eachWord S k f s)
+    → ((i : ℕ) (t : Core) → i < wordsOf S k → OwnWord S x k (s .map) i t (f i t)) → StepRight (recipe S) (meaning S x) k s (eachWord S k f s)
 words-right S x k s f clear ready nd each =
     let w = words-made S x k (valueOf S x k) s f clear ready each in
     plain-right

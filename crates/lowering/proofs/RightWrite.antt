@@ -16,16 +16,15 @@ use Rattle.table.specs.Node.{widthOf}
 use Rattle.table.proofs.Whole.{found-at}
 use Rattle.values.specs.Value as word
 use Rattle.values.specs.Value.{writeValue}
-use Rattle.values.specs.Eval.{offset}
 use Rattle.values.proofs.ByKind.{at-write, place-access}
-use Rattle.netlist.specs.Net.{Net, Assign}
+use Rattle.netlist.specs.Net.{Assign}
 use Rattle.gates.proofs.Laws.{grows-refl}
 use Rattle.words.specs.Num.{num}
 use Rattle.words.specs.Each.{Word}
 use Rattle.words.proofs.NumLaws.{right-num, num-right}
 use Rattle.words.proofs.EachLaws.{put-law}
 use Rattle.words.proofs.SubLaws.{wide-at}
-use Rattle.memory.specs.Address.{Listed, wordNum}
+use Rattle.memory.specs.Address.{wordNum}
 use Rattle.memory.specs.Write.{writeWords, WriteLaw}
 use Rattle.visits.specs.Flow.{Core}
 use Rattle.visits.specs.Stored.{stored}
@@ -34,7 +33,7 @@ use Rattle.visits.proofs.Plain.{plain-right}
 use Rattle.lowering.specs.Source.{Source, listed, nodeOf, wordsOf, wideOf, bitsOf, offOf, wordAt, allAt}
 use Rattle.lowering.specs.Own.{shareWord, eachWord, writeOwn}
 use Rattle.lowering.specs.Lower.{recipe}
-use Rattle.lowering.specs.Meaning.{slotOf, valueOf, meaning}
+use Rattle.lowering.specs.Meaning.{slotFrom, slotOf, valueOf, meaning}
 use Rattle.lowering.proofs.Places.{word-wide, memory-wide, memory-words, bits-words, off-inside}
 use Rattle.lowering.proofs.ShareLaws.{same-wide, same-words}
 use Rattle.lowering.proofs.MemoryLaws.{WritesOwed}
@@ -141,13 +140,13 @@ module _ {S : Source} {x : List ℕ} (v : Evaluated S x) {k : ℕ} (writes : Wri
   L = writes adr val mem (t .net) mem-long
 
   abbrev oa : ℕ
-  oa = offset (S .table) (S .addrs) (nodeOf S k .a)
+  oa = slotFrom S (nodeOf S k .a)
 
   abbrev ob : ℕ
-  ob = offset (S .table) (S .addrs) (nodeOf S k .b)
+  ob = slotFrom S (nodeOf S k .b)
 
   abbrev oc : ℕ
-  oc = offset (S .table) (S .addrs) (nodeOf S k .c)
+  oc = slotFrom S (nodeOf S k .c)
 
   value-says : (h : Assign) → Operable S x k (s .map) h (s .map) → num h val W ≡ getD x oc 0
   value-says h o =

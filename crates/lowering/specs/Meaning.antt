@@ -12,9 +12,12 @@ use Rattle.digits.specs.Digits.{digit}
 use Rattle.visits.specs.Claims.{Meaning}
 use Rattle.lowering.specs.Source.{Source, nodeOf, wideOf}
 
--- word i of node k, among the evaluator's slots x
+-- where node k's words begin among the evaluator's slots, and word i of node k there
+abbrev pub slotFrom : Source → ℕ → ℕ
+slotFrom S k = offset (S .table) (S .addrs) k
+
 abbrev pub slotOf : Source → List ℕ → ℕ → ℕ → ℕ
-slotOf S x k i = getD x (offset (S .table) (S .addrs) k + i) 0
+slotOf S x k i = getD x (slotFrom S k + i) 0
 
 -- digit j of a number
 abbrev pub isOne : ℕ → ℕ → Bool
