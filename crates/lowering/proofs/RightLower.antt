@@ -1,0 +1,28 @@
+-- Demand 2 of the lowering of a table without fault, with room for the sums, under any given slots that the word evaluator takes: if no reached
+-- divisor is zero, an assignment that meets the constraints exists, any two such agree on every gate, and each says every reached node's value;
+-- if a reached divisor is zero, none meets them.
+use mathlib.Core.Path.{_≡_}
+use mathlib.Core.List.{List}
+use Prim.Native.Nat.{ℕ}
+use Rattle.values.specs.declared.Answer.the-variants.{Done}
+use Rattle.values.specs.Eval.{evalWords}
+use Rattle.visits.specs.Claims.{Lowered}
+use Rattle.visits.proofs.Values as visits
+use Rattle.lowering.specs.Source.{Source}
+use Rattle.lowering.specs.Lower.{recipe, start}
+use Rattle.lowering.specs.Meaning.{meaning}
+use Rattle.lowering.proofs.ShapeLaws.{shape}
+use Rattle.lowering.proofs.MemoryLaws.{ReadsOwed, WritesOwed}
+use Rattle.lowering.proofs.DivisionLaws.{DividesOwed, KnownOwed}
+use Rattle.lowering.proofs.OwnLaws.{own-law}
+use Rattle.lowering.proofs.StartLaws.{starts}
+use Rattle.lowering.proofs.SmallLaws.{Accepted, lowered}
+use Rattle.lowering.proofs.Meaning.{done-evaluated}
+use Rattle.lowering.proofs.RightOwn.{own-right}
+
+pub right : (S : Source) (g c m : List ℕ) → Accepted S g c m → ReadsOwed S → WritesOwed S → DividesOwed → KnownOwed → lowered S g c .core .stop ≡ 0
+    → (v : List ℕ) → evalWords (S .table) (S .addrs) (S .word) v .answer ≡ Done
+    → Lowered (recipe S) (meaning S (evalWords (S .table) (S .addrs) (S .word) v .values)) (lowered S g c)
+right S g c m a reads writes divided known run v e =
+    visits.lowered (shape S (a .clear)) (own-law S (a .clear) reads writes divided known) (own-right (done-evaluated S v e) reads writes divided known)
+    (start S g c) (starts S g c (a .gates) (a .constraints)) run

@@ -1,0 +1,4 @@
+pub mod Source
+pub mod Own
+pub mod Lower
+pub mod Meaning

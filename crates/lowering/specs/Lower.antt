@@ -1,0 +1,119 @@
+-- The lowering: refusals 1 to 6, then 7, 8, 9, then 10; on success gates, constraints and bit map.
+use mathlib.Core.Path.{_≡_}
+use mathlib.Core.List.{List, _++_}
+use mathlib.Core.Bool.{Bool}
+use Prim.Native.Nat.{ℕ, _+_, _/_}
+use lib.Dec.{eqb, ltb}
+use lib.ListN.{length, take, drop, replicate}
+use Rattle.loops.specs.Loop.{pick}
+use Rattle.table.specs.Node.{nodes, given}
+use Rattle.table.specs.declared.Sums.{Sums}
+use Rattle.table.specs.Sheet as sheet
+use Rattle.table.specs.Sheet.{tableFault, isClear}
+use Rattle.table.specs.Ceiling.{sumsOf}
+use Rattle.netlist.specs.Record.{gate, put, records}
+use Rattle.visits.specs.Flow.{Core, Low, Recipe, lowerTo}
+use Rattle.division.specs.Constraint.{conUsed}
+use Rattle.lowering.specs.declared.lower.Answer.{Answer}
+use Rattle.lowering.specs.declared.lower.Answer.the-variants.{Done, Table, GateRoom, BitRoom, ConstraintRoom, ZeroDivisor}
+use Rattle.lowering.specs.Source.{Source, source, listed, nodeOf, bitsOf, offOf, totalOf, gatesOf, asksOf, firstOf, secondOf, thirdOf, blockedOf, badOf}
+use Rattle.lowering.specs.Own.{ownStep}
+
+-- what the visits take of a table
+abbrev pub recipe : Source → Recipe
+recipe S =
+    record {
+      size = nodes (S .table) + 1;
+      total = totalOf S;
+      bits = bitsOf S;
+      off = offOf S;
+      gates = gatesOf S;
+      asks = asksOf S;
+      first = firstOf S;
+      second = secondOf S;
+      third = thirdOf S;
+      own = ownStep S;
+      given = λ k. given (nodeOf S k);
+      bad = badOf S;
+      blocked = blockedOf S;
+    }
+
+-- the sheet's number of an answer, and the node beside it; 0 is no refusal
+abbrev pub number : Answer → ℕ
+number (Done g c) = 0
+number (Table f) = sheet.number f
+number GateRoom = 7
+number BitRoom = 8
+number ConstraintRoom = 9
+number (ZeroDivisor k) = 10
+
+abbrev pub node : Answer → ℕ
+node (Done g c) = 0
+node (Table f) = sheet.node f
+node GateRoom = 0
+node BitRoom = 0
+node ConstraintRoom = 0
+node (ZeroDivisor k) = k
+
+-- what is answered, and what the three lent buffers then hold; `seen` marks the nodes reached
+pub record Run : Type 0 where
+  pub answer : Answer
+  pub gates : List ℕ
+  pub cons : List ℕ
+  pub map : List ℕ
+  pub seen : List ℕ
+
+abbrev pub run : Answer → List ℕ → List ℕ → List ℕ → List ℕ → Run
+run a g c m z = record { answer = a; gates = g; cons = c; map = m; seen = z }
+
+-- unreached nodes' places hold this
+abbrev pub UNREACHED : ℕ
+UNREACHED = 4294967295
+
+-- two constants, no constraint, no bits, nothing seen
+unfoldable pub start : Source → List ℕ → List ℕ → Low
+start S g c =
+    record {
+      core =
+          record {
+            net = record { gates = put (put g 0 (gate 0 0 0 0)) 1 (gate 1 0 0 0); n = 2 };
+            cons = c;
+            nc = 0;
+            map = replicate (totalOf S) UNREACHED;
+            stop = 0;
+          };
+      seen = replicate (nodes (S .table) + 1) 0;
+    }
+
+-- all zero from end to end
+abbrev pub zeros : List ℕ → List ℕ
+zeros l = replicate (length l) 0
+
+-- 10, or done: beyond the used part the map is as before
+unfoldable pub ended : Source → List ℕ → List ℕ → List ℕ → Low → Run
+ended S g c m t =
+    pick (eqb (t .core .stop) 0)
+    (run (Done (t .core .net .n) (t .core .nc)) (t .core .net .gates) (t .core .cons) (t .core .map ++ drop (totalOf S) m) (t .seen))
+    (run (ZeroDivisor (t .core .stop)) (zeros g) (zeros c) (zeros m) (t .seen))
+
+-- whole constraints lent
+abbrev pub conRecords : List ℕ → ℕ
+conRecords c = length c / 2
+
+-- the sums of the ceilings
+abbrev pub sums : Source → Sums
+sums S = sumsOf (S .table) (listed S) (S .word)
+
+-- 7 GATE ROOM, 8 BIT ROOM, 9 CONSTRAINT ROOM: whole records lent below the sum; then the lowering
+unfoldable pub lowerClear : Source → List ℕ → List ℕ → List ℕ → List ℕ → Run
+lowerClear S g c m z =
+    pick (ltb (records g) (sums S .gates)) (run GateRoom g c m z)
+    (pick (ltb (length m) (sums S .map)) (run BitRoom g c m z)
+    (pick (ltb (conRecords c) (sums S .constraints)) (run ConstraintRoom g c m z)
+    (ended S g c m (lowerTo (recipe S) (start S g c)))))
+
+-- 1 to 6 first; every refusal but 10 changes nothing
+unfoldable pub lowerAll : Source → List ℕ → List ℕ → List ℕ → List ℕ → Run
+lowerAll S g c m z =
+    pick (isClear (tableFault (S .table) (S .addrs) (S .word))) (lowerClear S g c m z)
+    (run (Table (tableFault (S .table) (S .addrs) (S .word))) g c m z)

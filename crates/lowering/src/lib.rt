@@ -1,0 +1,2 @@
+// The lowering of a table of nodes to gates.
+pub mod lower; // the entry point: refusals, then the visits from the bad nodes
