@@ -1,8 +1,8 @@
 -- The step of a division, from the laws of a division by gates and of known operands.
 use mathlib.Core.Path.{_≡_, refl, ap, sym, _∙_, subst}
 use mathlib.Core.List.{List}
-use mathlib.Core.Bool.{Bool, true, false, _&&_, _||_, false≢true}
-use Prim.Native.Nat.{ℕ, zero, suc, _+_, _-_, _*_, _/_, _≤_, _<_}
+use mathlib.Core.Bool.{Bool, true, false, _&&_, false≢true}
+use Prim.Native.Nat.{ℕ, _+_, _*_, _/_, _≤_, _<_}
 use native.Mathlib.Omega.{arith}
 use native.Mathlib.Decide.{decLt}
 use lib.Dec.{eqb}
@@ -12,15 +12,13 @@ use Rattle.loops.specs.Loop.{pick}
 use Rattle.loops.proofs.Loop.{by-pick, either}
 use Rattle.table.specs.declared.Node.{Node}
 use Rattle.table.specs.declared.Fault.the-variants.{Clear}
-use Rattle.table.specs.Kind.{ITE, DIVU, REM, divides}
+use Rattle.table.specs.Kind.{DIVU, REM, divides}
 use Rattle.table.specs.Node.{widthOf}
-use Rattle.table.specs.Ceiling.{ceiling, constraintCeiling, divGates, divConstraints}
+use Rattle.table.specs.Ceiling.{ceiling, divGates, divConstraints}
 use Rattle.table.specs.Sheet.{tableFault}
 use Rattle.table.proofs.Whole.{Even}
 use Rattle.table.proofs.ceiling.ByKind.{top-divu, top-rem, constraints-divide}
-use Rattle.netlist.specs.Record.{Room}
-use Rattle.netlist.specs.Net.{Net}
-use Rattle.gates.specs.Law.{Grows, Formed}
+use Rattle.gates.specs.Law.{Grows}
 use Rattle.gates.proofs.Laws.{grows-refl, grows-weaken}
 use Rattle.digits.specs.Digits.{Below, allKnown}
 use Rattle.digits.proofs.Words.{below-all}
@@ -28,16 +26,16 @@ use Rattle.words.specs.Num.{blank}
 use Rattle.words.specs.Each.{putBits, Put}
 use Rattle.words.proofs.NumLaws.{blank-long}
 use Rattle.words.proofs.EachLaws.{put-law}
-use Rattle.division.specs.Constraint.{consOf, conGate, conValue, ConRoom, Within, More}
+use Rattle.division.specs.Constraint.{consOf, conGate, conValue, ConRoom, Within}
 use Rattle.division.specs.Rows.{Checked}
 use Rattle.division.specs.Check.{Book, conCount}
 use Rattle.division.specs.Known.{knownWord, KnownLaw}
 use Rattle.division.specs.Divide.{Divided, divWords, freeWord, divideWords, divCost, DivLaw}
 use Rattle.visits.specs.Flow.{Core}
 use Rattle.visits.specs.Stored.{stored}
-use Rattle.visits.specs.Claims.{Is, Under, Step, Ready, Asked}
+use Rattle.visits.specs.Claims.{Is, Step, Ready}
 use Rattle.visits.proofs.Stored.{word-step, room-after}
-use Rattle.lowering.specs.Source.{Source, listed, nodeOf, wordsOf, wideOf, bitsOf, offOf, totalOf, gatesOf, asksOf, blockedOf, wordAt}
+use Rattle.lowering.specs.Source.{Source, listed, nodeOf, wideOf, bitsOf, offOf, totalOf, gatesOf, asksOf, blockedOf, wordAt}
 use Rattle.lowering.specs.Own.{divideOwn}
 use Rattle.lowering.specs.Lower.{recipe}
 use Rattle.lowering.proofs.Places.{bits-words, off-inside, word-words, word-wide, gates-of, asks-of}

@@ -1,8 +1,8 @@
 -- The law of a word, kind by kind: what it is made of, how many gates it takes at most, and what it makes of known bits.
-use mathlib.Core.Path.{_≡_, refl, ap, sym, _∙_}
+use mathlib.Core.Path.{_≡_, refl, ap, _∙_}
 use mathlib.Core.List.{List}
-use mathlib.Core.Bool.{Bool, true, false}
-use Prim.Native.Nat.{ℕ, zero, suc, _+_, _-_, _*_, _≤_, _<_}
+use mathlib.Core.Bool.{Bool, true}
+use Prim.Native.Nat.{ℕ, suc, _+_, _-_, _*_, _≤_, _<_}
 use native.Mathlib.Omega.{arith}
 use native.Mathlib.Decide.{decLt}
 use lib.ListN.{length, getD, set, length-set}
@@ -14,7 +14,7 @@ use Rattle.netlist.specs.Kind.{free}
 use Rattle.netlist.specs.Net.{Net}
 use Rattle.gates.specs.Made.{MadeBit, added, gateInputBit}
 use Rattle.gates.specs.Given.{GivenLaw}
-use Rattle.gates.specs.Law.{Grows, Ext, Formed, BitLaw}
+use Rattle.gates.specs.Law.{Grows, Formed, BitLaw}
 use Rattle.gates.proofs.Laws.{grows-refl, grows-weaken, grows-trans, room-back}
 use Rattle.gates.proofs.GivenLaws.{given-law}
 use Rattle.gates.proofs.FoldLaws.{not-cost}
@@ -25,9 +25,9 @@ use Rattle.words.specs.declared.each.Bitwise.{Bitwise}
 use Rattle.words.specs.declared.each.Bitwise.the-variants.{Not, And, Choose}
 use Rattle.words.specs.Num.{blank}
 use Rattle.words.specs.Each.{Word, bitCost, bitBelow, eachBit, EachLaw, Put}
-use Rattle.words.specs.Add.{Chain, addWords, addCost}
+use Rattle.words.specs.Add.{addWords, addCost}
 use Rattle.words.specs.Sub.{subWords, subCost, ultWords, widened, SubLaw}
-use Rattle.words.specs.Eq.{eqWords, eqCost}
+use Rattle.words.specs.Eq.{eqWords}
 use Rattle.words.specs.Mul.{mulWords, mulCost, MulLaw}
 use Rattle.words.proofs.NumLaws.{blank-long, blank-at}
 use Rattle.words.proofs.Sums.{sum-most}

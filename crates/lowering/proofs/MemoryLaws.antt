@@ -1,12 +1,12 @@
 -- The steps of a read and a write, from the laws of both.
-use mathlib.Core.Path.{_≡_, refl, ap, sym, _∙_, subst}
+use mathlib.Core.Path.{_≡_, refl, ap, sym, _∙_}
 use mathlib.Core.List.{List}
-use mathlib.Core.Bool.{Bool, true, false}
-use Prim.Native.Nat.{ℕ, zero, suc, _+_, _-_, _*_, _≤_, _<_}
+use mathlib.Core.Bool.{false}
+use Prim.Native.Nat.{ℕ, _+_, _-_, _*_, _≤_, _<_}
 use native.Mathlib.Omega.{arith}
-use lib.ListN.{length, getD, take, drop, length-take, length-drop}
+use lib.ListN.{length, getD, length-take, length-drop}
 use Rattle.table.specs.declared.Fault.the-variants.{Clear}
-use Rattle.table.specs.Kind.{ITE, READ, WRITE}
+use Rattle.table.specs.Kind.{READ, WRITE}
 use Rattle.table.specs.Node.{widthOf}
 use Rattle.table.specs.Ceiling.{memoryGates}
 use Rattle.table.specs.Sheet.{tableFault}
@@ -14,7 +14,7 @@ use Rattle.table.proofs.Whole.{within}
 use Rattle.table.proofs.ceiling.ByKind.{top-read, top-write}
 use Rattle.netlist.specs.Record.{Room}
 use Rattle.netlist.specs.Net.{Net}
-use Rattle.gates.specs.Law.{Grows, Ext, Formed}
+use Rattle.gates.specs.Law.{Grows, Formed}
 use Rattle.gates.proofs.Laws.{grows-trans, grows-weaken, room-back}
 use Rattle.digits.specs.Digits.{Below}
 use Rattle.words.specs.Each.{Word, putBits, Put}
@@ -28,7 +28,7 @@ use Rattle.visits.proofs.Stored.{room-after}
 use Rattle.lowering.specs.Source.{Source, listed, nodeOf, wordsOf, wideOf, bitsOf, offOf, totalOf, gatesOf, blockedOf, wordAt, allAt}
 use Rattle.lowering.specs.Own.{fresh, eachWord, shareWord, readWord, writeOwn}
 use Rattle.lowering.specs.Lower.{recipe}
-use Rattle.lowering.proofs.Places.{Till, part-at, bits-words, off-inside, word-words, word-wide, memory-words, memory-wide, gates-of, word-below, all-below}
+use Rattle.lowering.proofs.Places.{Till, part-at, bits-words, off-inside, word-words, word-wide, memory-words, memory-wide, gates-of, all-below}
 use Rattle.lowering.proofs.WordLaws.{WordOwes, Reads, reads-up, made-owes, Made, all-made}
 use Rattle.lowering.proofs.KindLaws.{read-made}
 use Rattle.lowering.proofs.StepLaws.{made-as, node, fits, by-words, word-b, word-c, reads-a}

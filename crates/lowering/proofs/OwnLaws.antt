@@ -1,17 +1,15 @@
 -- The law of a node's own step, by the line of the sorts under which the node stands.
-use mathlib.Core.Path.{_≡_, refl, ap, sym, _∙_}
-use mathlib.Core.List.{List}
+use mathlib.Core.Path.{_≡_, refl, sym, _∙_}
 use mathlib.Core.Logic.{_⊎_, inl, inr}
-use mathlib.Core.Bool.{Bool, true, false}
-use Prim.Native.Nat.{ℕ, zero, suc, _+_, _*_, _≤_, _<_}
+use mathlib.Core.Bool.{true, false}
+use Prim.Native.Nat.{ℕ, _≤_}
 use native.Mathlib.Omega.{arith}
 use lib.Dec.{eqb}
 use lib.ListN.{length}
-use borrow.Author.Tests.{eqb-true, eqb-false, eq-eqb, ne-eqb}
+use borrow.Author.Tests.{eqb-false, ne-eqb}
 use Rattle.loops.specs.Loop.{pick}
 use Rattle.loops.proofs.Loop.{by-pick, pick-false}
 use Rattle.table.specs.declared.Fault.the-variants.{Clear}
-use Rattle.table.specs.Kind.{STATE}
 use Rattle.table.specs.Node.{nodeAt, widthOf, aOf, bOf, cOf}
 use Rattle.table.specs.Sheet.{tableFault}
 use Rattle.table.proofs.Whole.{Sound, Rule, is-const, is-input, is-state, is-not, is-bad, is-and, is-ext, is-eq, is-add, is-ite, is-sub, is-ult, is-mul, is-divu, is-rem, is-read, is-write}
@@ -19,7 +17,7 @@ use Rattle.gates.proofs.Laws.{grows-refl}
 use Rattle.visits.specs.Flow.{Core}
 use Rattle.visits.specs.Claims.{Is, Step, OwnLaw}
 use Rattle.visits.proofs.Marks.{positive}
-use Rattle.lowering.specs.Source.{Source, nodeOf, wordsOf, wideOf, totalOf, gatesOf, asksOf, blockedOf}
+use Rattle.lowering.specs.Source.{Source, nodeOf, wordsOf, totalOf, gatesOf, blockedOf}
 use Rattle.lowering.specs.Own.{eachWord, shareWord, madeBy, ownStep}
 use Rattle.lowering.specs.Lower.{recipe}
 use Rattle.lowering.proofs.Places.{word-words, sound-of}

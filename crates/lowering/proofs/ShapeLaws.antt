@@ -1,26 +1,26 @@
 -- The recipe of a table without fault has the shape that the visits ask.
 use mathlib.Core.Path.{_≡_, refl, ap, sym, _∙_}
 use mathlib.Core.List.{List}
-use mathlib.Core.Bool.{Bool, true, false, _&&_, _||_, false≢true}
-use Prim.Native.Nat.{ℕ, zero, suc, _+_, _-_, _*_, _≤_, _<_}
+use mathlib.Core.Bool.{Bool, true, false, _&&_, false≢true}
+use Prim.Native.Nat.{ℕ, _+_, _*_, _≤_, _<_}
 use native.Mathlib.Omega.{arith}
 use lib.Dec.{eqb}
-use lib.ListN.{length, getD, take, drop}
-use borrow.Author.Tests.{eqb-true, eq-eqb, ne-eqb}
+use lib.ListN.{getD}
+use borrow.Author.Tests.{eqb-true, ne-eqb}
 use Rattle.loops.specs.Loop.{pick}
 use Rattle.loops.proofs.Loop.{by-pick, either}
 use Rattle.table.specs.declared.Node.{Node}
 use Rattle.table.specs.declared.Fault.the-variants.{Clear}
 use Rattle.table.specs.Kind.{ITE, DIVU, REM, divides, usesB}
-use Rattle.table.specs.Node.{nodes, nodeAt, widthOf}
+use Rattle.table.specs.Node.{widthOf}
 use Rattle.table.specs.Sheet.{tableFault}
-use Rattle.table.proofs.Whole.{Sound, Rule, Even, Operands, is-const, is-input, is-state, is-not, is-bad, is-and, is-ext, is-eq, is-add, is-ite, is-sub, is-ult, is-mul, is-divu, is-rem, is-read, is-write}
+use Rattle.table.proofs.Whole.{Sound, Rule, Even, is-const, is-input, is-state, is-not, is-bad, is-and, is-ext, is-eq, is-add, is-ite, is-sub, is-ult, is-mul, is-divu, is-rem, is-read, is-write}
 use Rattle.netlist.specs.Bit.{isKnown}
-use Rattle.digits.specs.Digits.{Below, allKnown, knownBits, knownNumber}
+use Rattle.digits.specs.Digits.{allKnown, knownBits, knownNumber}
 use Rattle.digits.proofs.Numbers.{number-same}
 use Rattle.digits.proofs.Words.{all-true, below-all}
 use Rattle.visits.specs.Claims.{Is, Same, Shape}
-use Rattle.lowering.specs.Source.{Source, listed, nodeOf, wordsOf, wideOf, bitsOf, offOf, totalOf, conditionOf, firstOf, secondOf, thirdOf, blockedOf, wordAt}
+use Rattle.lowering.specs.Source.{Source, nodeOf, wideOf, bitsOf, offOf, conditionOf, firstOf, secondOf, thirdOf, blockedOf, wordAt}
 use Rattle.lowering.specs.Lower.{recipe}
 use Rattle.lowering.proofs.Places.{no-bits, off-apart, off-inside, sound-of, part-at, bits-words, word-words, word-wide}
 

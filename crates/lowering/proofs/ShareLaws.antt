@@ -1,15 +1,14 @@
 -- The steps of the kinds that take words or memories: inputs, shared bits, and choices.
-use mathlib.Core.Path.{_≡_, refl, ap, sym, _∙_, subst}
+use mathlib.Core.Path.{_≡_, refl, ap, sym, _∙_}
 use mathlib.Core.List.{List}
 use mathlib.Core.Bool.{Bool, true, false, _&&_, false≢true}
-use Prim.Native.Nat.{ℕ, zero, suc, _+_, _-_, _*_, _≤_, _<_}
+use Prim.Native.Nat.{ℕ, _*_, _≤_, _<_}
 use native.Mathlib.Omega.{arith}
 use lib.Dec.{eqb}
 use lib.ListN.{length, getD}
-use borrow.Author.Tests.{eq-eqb, ne-eqb}
+use borrow.Author.Tests.{ne-eqb}
 use Rattle.loops.specs.Loop.{pick}
 use Rattle.loops.proofs.Loop.{by-pick, pick-false}
-use Rattle.table.specs.declared.Unit.the-variants.{Bit}
 use Rattle.table.specs.declared.Fault.the-variants.{Clear}
 use Rattle.table.specs.Kind.{ITE}
 use Rattle.table.specs.Node.{widthOf, given}
@@ -18,17 +17,16 @@ use Rattle.table.specs.Sheet.{tableFault}
 use Rattle.table.proofs.ceiling.ByKind.{top-given, top-ite}
 use Rattle.netlist.specs.Bit.{isKnown}
 use Rattle.netlist.proofs.BitLaws.{unknown-least}
-use Rattle.words.specs.Each.{Word}
 use Rattle.visits.specs.Flow.{Core}
 use Rattle.visits.specs.Claims.{Is, Under, Step}
 use Rattle.digits.specs.Digits.{Below}
 use Rattle.lowering.specs.Source.{Source, listed, nodeOf, wordsOf, wideOf, bitsOf, offOf, totalOf, gatesOf, conditionOf, secondOf, thirdOf, blockedOf, wordAt}
 use Rattle.lowering.specs.Own.{eachWord, inputWord, shareWord, chooseWord, iteOwn}
 use Rattle.lowering.specs.Lower.{recipe}
-use Rattle.lowering.proofs.Places.{Till, bits-words, bits-size, word-words, word-wide, gates-of, word-below}
+use Rattle.lowering.proofs.Places.{Till, bits-words, bits-size, word-wide, gates-of, word-below}
 use Rattle.lowering.proofs.WordLaws.{WordOwes, Reads, made-owes}
 use Rattle.lowering.proofs.KindLaws.{InputsMade, inputs-made, share-made, choose-made}
-use Rattle.lowering.proofs.StepLaws.{wide-small, node, by-words, word-a, reads-a}
+use Rattle.lowering.proofs.StepLaws.{wide-small, node, by-words, word-a}
 
 -- nodes of one width have as many words, as wide
 module _ (S : Source) (x y : ℕ) (same : widthOf (S .table) x ≡ widthOf (S .table) y) where

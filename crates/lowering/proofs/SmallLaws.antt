@@ -1,13 +1,10 @@
 -- Demand 3 of the lowering of a table without fault, with room for the sums: what it makes is small and formed, and it is refused only with 10.
-use mathlib.Core.Path.{_≡_, refl, ap, sym, _∙_}
+use mathlib.Core.Path.{_≡_, ap, _∙_}
 use mathlib.Core.List.{List}
-use mathlib.Core.Bool.{true, false}
 use Prim.Native.Nat.{ℕ, _≤_}
-use lib.Dec.{eqb, ltb}
 use lib.ListN.{length}
 use borrow.Author.Tests.{le-ltb, eq-eqb, ne-eqb}
 use Rattle.loops.proofs.Loop.{pick-true, pick-false}
-use Rattle.table.specs.declared.Fault.{Fault}
 use Rattle.table.specs.declared.Fault.the-variants.{Clear}
 use Rattle.table.specs.Sheet.{tableFault, isClear}
 use Rattle.netlist.specs.Record.{records}

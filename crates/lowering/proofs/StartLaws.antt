@@ -1,8 +1,8 @@
 -- Where a table has no fault and the buffers have room for the sums, a lowering may begin; so it keeps demand 3, and is refused only where it
 -- stopped at a divisor that is known to be zero.
-use mathlib.Core.Path.{_≡_, refl, ap, sym, _∙_}
+use mathlib.Core.Path.{_≡_, refl, ap, _∙_}
 use mathlib.Core.List.{List}
-use Prim.Native.Nat.{ℕ, zero, suc, _+_, _-_, _*_, _/_, _≤_, _<_}
+use Prim.Native.Nat.{ℕ, zero, suc, _+_, _-_, _≤_}
 use native.Mathlib.Omega.{arith}
 use lib.ListN.{length, getD, replicate, length-replicate}
 use borrow.Author.Tests.{ne-eqb}
@@ -10,8 +10,7 @@ use Rattle.loops.specs.Loop.{pick, sum}
 use Rattle.loops.proofs.Loop.{pick-false}
 use Rattle.table.specs.Node.{nodes}
 use Rattle.table.specs.Ceiling.{nodeGates, nodeConstraints, sumsOf}
-use Rattle.netlist.specs.Record.{gate, gateAt, put, records, Room}
-use Rattle.netlist.specs.Net.{Net}
+use Rattle.netlist.specs.Record.{gate, put, records, Room}
 use Rattle.netlist.proofs.RecordLaws.{put-length, put-same, put-other}
 use Rattle.gates.specs.Law.{Formed}
 use Rattle.visits.specs.Claims.{sumFrom, Start}

@@ -1,34 +1,33 @@
 -- The step of a node, kind by kind: from the laws of its words, with its operands' bits taken out of the map.
-use mathlib.Core.Path.{_≡_, refl, ap, sym, _∙_, subst}
+use mathlib.Core.Path.{_≡_, refl, ap, sym, _∙_}
 use mathlib.Core.List.{List}
-use mathlib.Core.Bool.{Bool, true, false}
-use Prim.Native.Nat.{ℕ, zero, suc, _+_, _-_, _*_, _≤_, _<_}
+use mathlib.Core.Bool.{true, false}
+use Prim.Native.Nat.{ℕ, _+_, _-_, _*_, _≤_, _<_}
 use native.Mathlib.Omega.{arith}
 use lib.Dec.{eqb, leb}
 use lib.ListN.{length, getD}
-use borrow.Author.Tests.{eqb-true, eq-eqb, ne-eqb, le-leb, leb-true}
+use borrow.Author.Tests.{eqb-true, le-leb, leb-true}
 use Rattle.loops.specs.Loop.{pick}
 use Rattle.loops.proofs.Loop.{by-pick, either}
-use Rattle.table.specs.declared.Node.{Node}
 use Rattle.table.specs.declared.Fault.the-variants.{Clear}
-use Rattle.table.specs.Kind.{CONST, INPUT, STATE, NOT, BAD, AND, EXT, EQ, ADD, ITE, SUB, ULT, MUL, DIVU, REM, READ, WRITE, usesA, usesB, usesC}
-use Rattle.table.specs.Node.{nodes, nodeAt, widthOf, given}
+use Rattle.table.specs.Kind.{CONST, NOT, AND, EQ, ADD, ITE, SUB, ULT, MUL, usesA, usesB, usesC}
+use Rattle.table.specs.Node.{widthOf}
 use Rattle.table.specs.Sheet.{tableFault}
 use Rattle.table.proofs.Whole.{Sound, Even, Compared, within, fine}
-use Rattle.table.proofs.ceiling.ByKind.{top-const, top-not, top-and, top-eq, top-add, top-sub, top-ult, top-mul}
+use Rattle.table.proofs.ceiling.ByKind.{top-not, top-and, top-eq, top-add, top-sub, top-ult, top-mul}
 use Rattle.digits.specs.Digits.{Below}
 use Rattle.netlist.specs.Net.{Net}
 use Rattle.gates.proofs.Laws.{grows-weaken}
 use Rattle.words.specs.Each.{Word}
 use Rattle.visits.specs.Flow.{Core}
 use Rattle.visits.specs.Claims.{Is, Under, Step}
-use Rattle.lowering.specs.Source.{Source, listed, nodeOf, wordsOf, wideOf, bitsOf, offOf, totalOf, gatesOf, blockedOf, wordAt}
-use Rattle.lowering.specs.Own.{eachWord, shareWord, plainWord, wordOwn, madeBy}
+use Rattle.lowering.specs.Source.{Source, nodeOf, wordsOf, wideOf, offOf, totalOf, gatesOf, blockedOf, wordAt}
+use Rattle.lowering.specs.Own.{eachWord, plainWord, wordOwn}
 use Rattle.lowering.specs.Lower.{recipe}
 use Rattle.lowering.proofs.Places.{Till, bits-words, off-inside, word-words, word-wide, sound-of, gates-of, word-below}
 use Rattle.lowering.proofs.ShapeLaws.{second-else, third-else}
 use Rattle.lowering.proofs.WordLaws.{WordMade, WordOwes, Reads, made-owes, each-step}
-use Rattle.lowering.proofs.KindLaws.{Both, Nothing, const-made, share-made, not-made, and-made, eq-made, ult-made, add-made, sub-made, mul-made}
+use Rattle.lowering.proofs.KindLaws.{Both, Nothing, const-made, not-made, and-made, eq-made, ult-made, add-made, sub-made, mul-made}
 
 -- a word's width and its gates said otherwise
 pub made-as : {s : Net} {In : ℕ → Type 0} {y : Word} {v w c d : ℕ} → v ≡ w → c ≤ d → WordMade s In v c y → WordMade s In w d y

@@ -1,12 +1,11 @@
 -- From the law of each word of a node to the law of its step, once for every kind that makes its words one after the other.
-use mathlib.Core.Path.{_≡_, refl, ap, sym, _∙_}
+use mathlib.Core.Path.{_≡_, refl, ap, _∙_}
 use mathlib.Core.List.{List}
-use mathlib.Core.Bool.{Bool, true, false}
-use Prim.Native.Nat.{ℕ, zero, suc, _+_, _-_, _*_, _≤_, _<_}
+use mathlib.Core.Bool.{false}
+use Prim.Native.Nat.{ℕ, suc, _+_, _-_, _*_, _≤_, _<_}
 use native.Mathlib.Omega.{arith}
 use native.Mathlib.Decide.{decLt}
 use lib.ListN.{length, getD}
-use Rattle.loops.specs.Loop.{iter}
 use Rattle.loops.proofs.Loop.{iter-inv}
 use Rattle.netlist.specs.Record.{Room}
 use Rattle.netlist.specs.Net.{Net}
@@ -17,7 +16,7 @@ use Rattle.words.specs.Each.{Word, putBits, Put}
 use Rattle.words.proofs.EachLaws.{put-law}
 use Rattle.visits.specs.Flow.{Core}
 use Rattle.visits.specs.Stored.{stored}
-use Rattle.visits.specs.Claims.{Operands, Under, Ready, Step, Frame}
+use Rattle.visits.specs.Claims.{Operands, Under, Ready, Step}
 use Rattle.visits.proofs.Stored.{room-after}
 use Rattle.lowering.specs.Source.{Source, wordsOf, wideOf, bitsOf, offOf, gatesOf, blockedOf}
 use Rattle.lowering.specs.Own.{wordStep, eachWord}
