@@ -22,3 +22,5 @@ pub mod RightWrite
 pub mod RightDivide
 pub mod RightOwn
 pub mod RightLower
+pub mod OwedLaws
+pub mod Demands
