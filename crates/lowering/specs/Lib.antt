@@ -1,3 +1,4 @@
 pub mod Source
 pub mod Own
+pub mod Place
 pub mod Lower
