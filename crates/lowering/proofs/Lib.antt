@@ -1,1 +1,12 @@
+pub mod Places
+pub mod ShapeLaws
+pub mod WordLaws
+pub mod KindLaws
+pub mod StepLaws
+pub mod ShareLaws
+pub mod MemoryLaws
+pub mod DivisionLaws
+pub mod OwnLaws
+pub mod StartLaws
+pub mod SmallLaws
 pub mod Paths
