@@ -10,3 +10,4 @@ pub mod OwnLaws
 pub mod StartLaws
 pub mod SmallLaws
 pub mod Paths
+pub mod Facts

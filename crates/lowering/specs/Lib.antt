@@ -2,3 +2,4 @@ pub mod Source
 pub mod Own
 pub mod Place
 pub mod Lower
+pub mod Asked

@@ -1,12 +1,17 @@
 // An input or an uninitialised state: one InputBit a bit.
 ghost use mathlib.Core.Path.{_≡_};
+ghost use mathlib.Core.Bool.{true};
 ghost use Prim.Native.Nat.{ℕ, _+_, _*_, _≤_, _<_};
 ghost use lib.ListN.{length};
 ghost use Rattle.loops.specs.Loop.{iter};
-ghost use Rattle.gates.specs.Made.{Fits};
+ghost use Rattle.gates.specs.Made.{netOf, Fits};
 ghost use Rattle.words.specs.Each.{wordOf};
-ghost use Rattle.lowering.specs.Own.{inputStep};
+ghost use Rattle.table.specs.Node.{nodeAt, given};
+ghost use Rattle.lowering.specs.Source.{source};
+ghost use Rattle.lowering.specs.Own.{inputStep, inputWord, eachWord};
+ghost use Rattle.lowering.specs.Asked.{Makes, Turned};
 ghost use Rattle.lowering.specs.Place.{placed, inputs};
+use crate::place::place_of;
 use gates::given;
 use gates::made::At;
 use words::each;
@@ -75,4 +80,22 @@ pub fn input_words(
         i += 1;
     }
     next
+}
+
+// The own step of an input or an uninitialised state.
+pub fn input_node(
+    table: &[u64],
+    addrs: &[u64],
+    word: u64,
+    offs: &[usize],
+    gates: &mut [u32],
+    at: At,
+    map: &mut [u32],
+    node: usize,
+) -> At
+    requires { ⌜ Makes (source (now table) (now addrs) word) (now offs) (now gates) at (length (now map)) node × (given (nodeAt (now table) node) ≡ true) ⌝ }
+    ensures { λ r. ⌜ Turned (eachWord (source (now (table .entry)) (now (addrs .entry)) word) node (inputWord (source (now (table .entry)) (now (addrs .entry)) word) node)) (netOf (now (gates .entry)) at) (now (map .entry)) (netOf (now (gates .exit)) r) (now (map .exit)) ⌝ }
+{
+    let place = place_of(table, addrs, word, offs, node);
+    input_words(gates, at, node, place.off, place.words, place.wide, map)
 }

@@ -3,7 +3,11 @@ ghost use mathlib.Core.Path.{_≡_};
 ghost use Prim.Native.Nat.{ℕ, _+_, _*_, _≤_, _<_};
 ghost use lib.ListN.{length};
 ghost use Rattle.loops.specs.Loop.{iter};
+ghost use Rattle.lowering.specs.Source.{source, wordsOf};
+ghost use Rattle.lowering.specs.Own.{shareWord, eachWord};
 ghost use Rattle.lowering.specs.Place.{shareAt};
+ghost use Rattle.lowering.specs.Asked.{Stands, Mapped};
+use crate::place::place_of;
 use words::each;
 
 // Word i. It goes through a scratch word, in which known false stands above it.
@@ -27,4 +31,30 @@ pub fn share_words(from: usize, v: usize, to: usize, words: usize, w: usize, map
         share_word(from, v, to, w, i, map);
         i += 1;
     }
+}
+
+// The own step of a node that shares the bits of node x, which has as many words.
+pub fn share_node(
+    table: &[u64],
+    addrs: &[u64],
+    word: u64,
+    offs: &[usize],
+    map: &mut [u32],
+    node: usize,
+    x: usize,
+)
+    requires { ⌜ Stands (source (now table) (now addrs) word) (now offs) (length (now map)) node ⌝ }
+    requires { ⌜ (1 ≤ x) × (x < node) × (wordsOf (source (now table) (now addrs) word) node ≡ wordsOf (source (now table) (now addrs) word) x) ⌝ }
+    ensures { λ _. ⌜ Mapped (eachWord (source (now (table .entry)) (now (addrs .entry)) word) node (shareWord (source (now (table .entry)) (now (addrs .entry)) word) x)) (now (map .entry)) (now (map .exit)) ⌝ }
+{
+    let place = place_of(table, addrs, word, offs, node);
+    let shared = place_of(table, addrs, word, offs, x);
+    share_words(
+        shared.off,
+        shared.wide,
+        place.off,
+        place.words,
+        place.wide,
+        map,
+    );
 }
