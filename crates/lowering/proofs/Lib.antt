@@ -24,3 +24,5 @@ pub mod RightOwn
 pub mod RightLower
 pub mod OwedLaws
 pub mod Demands
+pub mod Paths
+pub mod Facts

@@ -1,0 +1,44 @@
+-- What the functions that make a node's own step ask for, and what they answer for a part of the state.
+use mathlib.Core.Path.{_≡_}
+use mathlib.Core.List.{List}
+use Prim.Native.Nat.{ℕ, _+_, _*_, _≤_, _<_}
+use lib.ListN.{length}
+use Rattle.table.specs.declared.Fault.the-variants.{Clear}
+use Rattle.table.specs.declared.Unit.the-variants.{Bit}
+use Rattle.table.specs.Sheet.{tableFault}
+use Rattle.table.specs.Size.{Offsets}
+use Rattle.netlist.specs.Net.{Net}
+use Rattle.gates.specs.declared.made.At.{At}
+use Rattle.gates.specs.Made.{netOf, Fits}
+use Rattle.visits.specs.Flow.{Core}
+use Rattle.visits.specs.Claims.{Is}
+use Rattle.lowering.specs.declared.place.Place.{Place}
+use Rattle.lowering.specs.Source.{Source, listed, wordsOf, wideOf, offOf, totalOf, gatesOf}
+use Rattle.lowering.specs.Lower.{recipe}
+
+-- node k of a table without fault, its offsets worked out, over a map of `long` places
+pub record Stands (S : Source) (o : List ℕ) (long k : ℕ) : Type 0 where
+  pub clear : tableFault (S .table) (S .addrs) (S .word) ≡ Clear
+  pub is : Is (recipe S) k
+  pub offsets : Offsets Bit (S .table) (listed S) (S .word) o
+  pub mapped : long ≡ totalOf S
+
+-- and room for its gates
+pub record Makes (S : Source) (o : List ℕ) (g : List ℕ) (a : At) (long k : ℕ) : Type 0 where
+  pub stands : Stands S o long k
+  pub room : Fits g a (gatesOf S k)
+
+-- where the bits of node x stand
+abbrev pub placeOf : Source → ℕ → Place
+placeOf S x = record { off = offOf S x; words = wordsOf S x; wide = wideOf S x }
+
+abbrev pub coreAt : Net → List ℕ → ℕ → List ℕ → ℕ → Core
+coreAt s c nc m stop = record { net = s; cons = c; nc = nc; map = m; stop = stop }
+
+-- a step of the whole state that turns this net and map into those, and leaves the rest
+abbrev pub Turned : (Core → Core) → Net → List ℕ → Net → List ℕ → Type 0
+Turned f s m s′ m′ = (c : List ℕ) (nc stop : ℕ) → coreAt s′ c nc m′ stop ≡ f (coreAt s c nc m stop)
+
+-- the same of a step that makes no gate
+abbrev pub Mapped : (Core → Core) → List ℕ → List ℕ → Type 0
+Mapped f m m′ = (s : Net) → Turned f s m s m′

@@ -1,0 +1,37 @@
+-- A node's words, one after the other, to their places in the bit map: what the code does over places alone.
+use mathlib.Core.List.{List}
+use Prim.Native.Nat.{ℕ, _+_, _*_}
+use lib.ListN.{set, take, drop}
+use Rattle.loops.specs.Loop.{iter}
+use Rattle.table.specs.declared.Node.{Node}
+use Rattle.gates.specs.Made.{MadeBit}
+use Rattle.words.specs.declared.each.Bitwise.the-variants as op
+use Rattle.words.specs.Each.{Word, eachBit, putBits}
+use Rattle.words.specs.Sub.{widened}
+use Rattle.lowering.specs.Own.{asIs, fresh, inputStep, plainWord}
+
+-- word i, of w bits, as f makes it of the net and the map: it goes to its place among those from `to` on
+unfoldable pub placed : ℕ → ℕ → (ℕ → Word → Word) → ℕ → Word → Word
+placed to w f i x = asIs (f i x .net) (putBits (to + i * w) (f i x .out) w (x .out))
+
+-- the InputBits of word i
+unfoldable pub inputs : ℕ → ℕ → ℕ → Word → Word
+inputs node w i x = iter w (inputStep node (i * w)) (fresh (x .net))
+
+-- a choice between words i of those from a and from b on
+unfoldable pub choices : ℕ → ℕ → ℕ → ℕ → ℕ → Word → Word
+choices c a b w i x = eachBit (op.Choose c) (take w (drop (a + i * w) (x .out))) (take w (drop (b + i * w) (x .out))) w (fresh (x .net))
+
+-- word i of those from `from` on, v wide, shared by word i of those from `to` on, w wide
+unfoldable pub shareAt : ℕ → ℕ → ℕ → ℕ → ℕ → List ℕ → List ℕ
+shareAt from v to w i m = putBits (to + i * w) (widened v (take v (drop (from + i * v) m))) w m
+
+-- a bit as a word's lowest
+abbrev pub inFront : List ℕ → MadeBit → Word
+inFront out m = asIs (m .net) (set out 0 (m .bit))
+
+-- the word of a node d that is neither given nor shared, a choice, a division or a read: its operands' bits stand from a and from b on, v wide
+unfoldable pub plainAt : Node → ℕ → ℕ → ℕ → ℕ → Word → Word
+plainAt d v a b to x =
+    let y : Word = plainWord d v (take v (drop a (x .out))) (take v (drop b (x .out))) (x .net) in
+    asIs (y .net) (putBits to (y .out) (d .width) (x .out))
