@@ -21,4 +21,5 @@ pub mod RightRead
 pub mod RightWrite
 pub mod RightDivide
 pub mod RightOwn
+pub mod Owed
 pub mod RightLower
