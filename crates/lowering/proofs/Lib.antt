@@ -21,6 +21,7 @@ pub mod RightRead
 pub mod RightWrite
 pub mod RightDivide
 pub mod RightOwn
+pub mod Owed
 pub mod RightLower
 pub mod OwedLaws
 pub mod Demands

@@ -12,17 +12,17 @@ use Rattle.lowering.specs.Source.{Source}
 use Rattle.lowering.specs.Lower.{recipe, start}
 use Rattle.lowering.specs.Meaning.{meaning}
 use Rattle.lowering.proofs.ShapeLaws.{shape}
-use Rattle.lowering.proofs.MemoryLaws.{ReadsOwed, WritesOwed}
-use Rattle.lowering.proofs.DivisionLaws.{DividesOwed, KnownOwed}
+use Rattle.lowering.proofs.Owed.{reads-owed, writes-owed, divides-owed, known-owed}
 use Rattle.lowering.proofs.OwnLaws.{own-law}
 use Rattle.lowering.proofs.StartLaws.{starts}
 use Rattle.lowering.proofs.SmallLaws.{Accepted, lowered}
 use Rattle.lowering.proofs.Meaning.{done-evaluated}
 use Rattle.lowering.proofs.RightOwn.{own-right}
 
-pub right : (S : Source) (g c m : List ℕ) → Accepted S g c m → ReadsOwed S → WritesOwed S → DividesOwed → KnownOwed → lowered S g c .core .stop ≡ 0
-    → (v : List ℕ) → evalWords (S .table) (S .addrs) (S .word) v .answer ≡ Done
+pub right : (S : Source) (g c m : List ℕ) → Accepted S g c m → lowered S g c .core .stop ≡ 0 → (v : List ℕ) → evalWords (S .table) (S .addrs) (S .word) v .answer ≡ Done
     → Lowered (recipe S) (meaning S (evalWords (S .table) (S .addrs) (S .word) v .values)) (lowered S g c)
-right S g c m a reads writes divided known run v e =
-    visits.lowered (shape S (a .clear)) (own-law S (a .clear) reads writes divided known) (own-right (done-evaluated S v e) reads writes divided known)
+right S g c m a run v e =
+    let reads = reads-owed S (a .clear) in
+    let writes = writes-owed S (a .clear) in
+    visits.lowered (shape S (a .clear)) (own-law S (a .clear) reads writes divides-owed known-owed) (own-right (done-evaluated S v e) reads writes divides-owed known-owed)
     (start S g c) (starts S g c (a .gates) (a .constraints)) run
