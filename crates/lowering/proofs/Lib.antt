@@ -23,7 +23,6 @@ pub mod RightDivide
 pub mod RightOwn
 pub mod Owed
 pub mod RightLower
-pub mod OwedLaws
 pub mod Demands
 pub mod Paths
 pub mod Facts

@@ -93,16 +93,16 @@ unfoldable pub writeOwn : Source → ℕ → Core → Core
 writeOwn S k s =
     let t : Core = eachWord S k (shareWord S (nodeOf S k .a)) s in
     let x : Word =
-        writeWords (listed S) (S .word) (S .addrs) (wordAt S (s .map) (nodeOf S k .b) 0) (wordAt S (s .map) (nodeOf S k .c) 0)
-        (record { net = t .net; out = allAt S (t .map) k }) in
+    writeWords (listed S) (S .word) (S .addrs) (wordAt S (s .map) (nodeOf S k .b) 0) (wordAt S (s .map) (nodeOf S k .c) 0)
+    (record { net = t .net; out = allAt S (t .map) k }) in
     stored (offOf S k) (bitsOf S k) t (x .net) (x .out)
 
 -- a division records its constraints
 unfoldable pub divideOwn : Source → ℕ → Core → Core
 divideOwn S k s =
     let x : Checked =
-        divideWords (eqb (nodeOf S k .kind) DIVU) (wideOf S k) k (wordAt S (s .map) (nodeOf S k .a) 0) (wordAt S (s .map) (nodeOf S k .b) 0)
-        (record { net = s .net; cons = consOf (s .cons) (s .nc); out = blank }) in
+    divideWords (eqb (nodeOf S k .kind) DIVU) (wideOf S k) k (wordAt S (s .map) (nodeOf S k .a) 0) (wordAt S (s .map) (nodeOf S k .b) 0)
+    (record { net = s .net; cons = consOf (s .cons) (s .nc); out = blank }) in
     record { net = x .net; cons = x .cons .list; nc = x .cons .m; map = putBits (offOf S k) (x .out) (wideOf S k) (s .map); stop = s .stop }
 
 -- an ite with a known condition shares the chosen side
