@@ -1,22 +1,24 @@
 -- The law of a division by gates.
 use mathlib.Core.Path.{_≡_, refl, ap, sym, _∙_}
 use mathlib.Core.List.{List}
-use mathlib.Core.Bool.{Bool, true, false}
+use mathlib.Core.Bool.{Bool, true, false, _&&_}
 use Prim.Native.Nat.{ℕ, zero, suc, _+_, _*_, _-_, _/_, _≤_, _<_}
 use native.Mathlib.Omega.{arith}
 use lib.ListN.{length, getD}
+use Rattle.loops.proofs.Loop.{by-pick}
 use Rattle.netlist.specs.Record.{gateAt, Room}
 use Rattle.netlist.specs.Net.{Net, Assign, Obeys}
 use Rattle.gates.specs.Law.{Grows, Formed}
 use Rattle.gates.proofs.Laws.{grows-trans, grows-weaken, room-back}
-use Rattle.digits.specs.Digits.{Below}
+use Rattle.digits.specs.Digits.{Below, allKnown}
 use Rattle.words.specs.Num.{num, blank}
 use Rattle.words.specs.Mul.{mulCost}
 use Rattle.words.proofs.NumLaws.{blank-long}
 use Rattle.words.proofs.EachLaws.{below-more}
+use Rattle.division.specs.Rows.{Checked}
 use Rattle.division.specs.Check.{Book, checkWords, checkCost, conCount, CheckLaw}
 use Rattle.division.specs.Pair.{Pair, pairWords, PairLaw}
-use Rattle.division.specs.Divide.{Divided, divWords, divCost, DivLaw}
+use Rattle.division.specs.Divide.{Divided, divWords, freeWord, divideWords, divCost, DivLaw}
 use Rattle.division.proofs.CheckLaws.{check-law}
 use Rattle.division.proofs.PairLaws.{pair-law}
 
@@ -67,6 +69,16 @@ module _ (w node : ℕ) (n d : List ℕ) (s : Book) (small : w ≤ 64) where
 
       remIn : Below (f .net .n) (f .rem) w
       remIn j l = omega (arith, k .rems j l, k .count)
+
+-- how much a division makes at most, by gates or not
+pub divide-most : (quotient : Bool) (w node : ℕ) (n d : List ℕ) (st : Checked) → w ≤ 64
+    → (divideWords quotient w node n d st .net .n ≤ st .net .n + divCost w) × (divideWords quotient w node n d st .cons .m ≤ st .cons .m + conCount w)
+unfolding divideWords freeWord
+divide-most quotient w node n d st small =
+    let k : DivLaw w node n d (record { net = st .net; cons = st .cons }) (divWords w node n d (record { net = st .net; cons = st .cons })) =
+    div-law w node n d (record { net = st .net; cons = st .cons }) small in
+    by-pick (λ (t : Checked). (t .net .n ≤ st .net .n + divCost w) × (t .cons .m ≤ st .cons .m + conCount w)) (allKnown w n && allKnown w d) _ _
+    (λ h. (omega arith, omega arith)) (λ h. (k .grows .upto, omega (arith, k .more .count)))
 
 -- document 01's numbers
 ceilings : (divCost 4 ≡ 91) × (conCount 4 ≡ 16) × (divCost 64 ≡ 11041) × (mulCost 4 ≡ 40)

@@ -2,13 +2,31 @@
 ghost use mathlib.Core.Path.{_≡_};
 ghost use Prim.Native.Nat.{ℕ, _+_, _*_, _≤_, _<_};
 ghost use lib.ListN.{length};
-ghost use Rattle.division.specs.Constraint.{conUsed, consOf, constrain, constrainEach};
+ghost use Rattle.division.specs.Constraint.{conUsed, conGate, conValue, consOf, constrain, constrainEach};
 use gates::made::At;
 
 // Where the next gate goes, and the next constraint.
 pub struct Counts {
     pub at: At,
     pub m: usize,
+}
+
+// Gate and value of a constraint.
+pub struct Constraint {
+    pub gate: u32,
+    pub value: u32,
+}
+
+// Constraint j.
+pub fn constraint_at(cons: &[u32], j: usize) -> Constraint
+    requires { ⌜ conUsed (j + 1) ≤ length (now cons) ⌝ }
+    ensures { λ r. ⌜ (r .gate ≡ conGate (now (cons .entry)) j) × (r .value ≡ conValue (now (cons .entry)) j) ⌝ }
+{
+    let place = 2 * j;
+    Constraint {
+        gate: cons[place],
+        value: cons[place + 1],
+    }
 }
 
 // One constraint more; gives back how many there are.
