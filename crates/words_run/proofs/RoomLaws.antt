@@ -5,18 +5,16 @@ use Prim.Native.Nat.{ℕ, _+_, _-_, _*_, _≤_}
 use native.Mathlib.Omega.{arith}
 use lib.ListN.{length}
 use Rattle.gates.specs.declared.made.At.{At}
-use Rattle.netlist.specs.declared.record.Gate.{Gate}
-use Rattle.gates.specs.Made.{MadeBit, added, netOf, madeOf}
+use Rattle.gates.specs.Made.{MadeBit, netOf, madeOf}
 use Rattle.words.specs.Add.{Chain, chainOf, addWords}
 use Rattle.words.specs.Sub.{subWords, ultWords}
 use Rattle.words.specs.Eq.{eqWords}
+use Rattle.words.specs.Each.{Word, wordOf}
+use Rattle.words.specs.Mul.{mulWords, mulCost}
 use Rattle.words.proofs.AddLaws.{add-law, cost-three}
+use Rattle.words.proofs.MulLaws.{mul-law}
 use Rattle.words.proofs.SubLaws.{sub-law, sub-four, ult-law}
 use Rattle.words.proofs.EqLaws.{eq-law, eq-three}
-
-pub given-next : (g g′ : List ℕ) (n n′ : At) (b : ℕ) (d : Gate) → madeOf g′ n′ b ≡ added (netOf g n) d → n′ .n ≡ n .n + 1
-unfolding added
-given-next g g′ n n′ b d e = ap (λ (m : MadeBit). m .net .n) e
 
 module _ (w : ℕ) (left right g g′ : List ℕ) (n n′ : At) where
   pub add-most : (out out′ : List ℕ) (c c′ : ℕ) → w ≤ length out → chainOf g′ n′ c′ out′ ≡ addWords w left right (chainOf g n c out) → n′ .n ≤ n .n + 3 * w
@@ -30,3 +28,6 @@ module _ (w : ℕ) (left right g g′ : List ℕ) (n n′ : At) where
 
   pub eq-most : (b : ℕ) → 1 ≤ w → w ≤ 65 → madeOf g′ n′ b ≡ eqWords w left right (netOf g n) → n′ .n ≤ n .n + (3 * w - 1)
   eq-most b k h e = omega (arith, ap (λ (m : MadeBit). m .net .n) e, eq-law w left right (netOf g n) k h .ext .grows .upto, eq-three left right w k)
+
+  pub mul-most : (out out′ : List ℕ) → w ≤ 65 → w ≤ length out → wordOf g′ n′ out′ ≡ mulWords w left right (wordOf g n out) → n′ .n ≤ n .n + mulCost w
+  mul-most out out′ k h e = omega (arith, ap (λ (t : Word). t .net .n) e, mul-law w left right (wordOf g n out) k h .ext .grows .upto)

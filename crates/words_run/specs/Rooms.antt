@@ -9,4 +9,4 @@ abbrev pub Four : List ℕ → Type 0
 Four word = 4 ≤ length word
 
 abbrev pub Few : List ℕ → At → Type 0
-Few l at = Fits l at 17
+Few l at = Fits l at 40

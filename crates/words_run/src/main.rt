@@ -3,18 +3,19 @@ ghost use mathlib.Core.Path.{_≡_};
 ghost use Prim.Native.Nat.{_+_, _≤_, _<_};
 ghost use lib.ListN.{length};
 ghost use Rattle.netlist.specs.Record.{Room};
-ghost use Rattle.gates.specs.Made.{Fits};
 ghost use Rattle.words_run.specs.Rooms.{Four, Few};
-use gates::given::input_bit;
 use gates::made::At;
 use gates::made::Made;
 use netlist::check::is_done;
 use netlist::eval::eval_gates;
 use netlist::record;
-use netlist::record::Gate;
-use netlist::record::put_gate;
+use trial::constants;
+use trial::give;
+use trial::input_word;
+use trial::number_of;
 use words::add::add_words;
 use words::eq::eq_words;
+use words::mul::mul_words;
 use words::sub::sub_words;
 use words::sub::ult_words;
 
@@ -23,6 +24,18 @@ enum Op {
     Sub,
     Ult,
     Eq,
+    Mul,
+}
+
+// A product by repeated sums.
+fn product(x: u64, y: u64) -> u64 {
+    let mut sum = 0;
+    let mut i = 0;
+    while i < y {
+        sum = std::num::wrapping_add_u64(sum, x);
+        i += 1;
+    }
+    sum
 }
 
 // What the arithmetic says.
@@ -32,51 +45,8 @@ fn wanted(op: Op, x: u64, y: u64) -> u64 {
         Op::Sub => std::num::wrapping_sub_u64(x, y) % 16,
         Op::Ult => (x < y) as u64,
         Op::Eq => (x == y) as u64,
+        Op::Mul => product(x, y) % 16,
     }
-}
-
-// The two constants.
-fn constants(gates: &mut [u32]) -> At
-    requires { ⌜ Room (now gates) 2 ⌝ }
-    ensures { λ r. ⌜ r .n ≡ 2 ⌝ }
-{
-    put_gate(
-        gates,
-        0,
-        Gate {
-            kind: Gate::CONST_FALSE,
-            x: 0,
-            y: 0,
-            z: 0,
-        },
-    );
-    put_gate(
-        gates,
-        1,
-        Gate {
-            kind: Gate::CONST_TRUE,
-            x: 0,
-            y: 0,
-            z: 0,
-        },
-    );
-    At { n: 2 }
-}
-
-// A word of given bits, as node's.
-fn input_word(gates: &mut [u32], at: At, node: u32, word: &mut [u32]) -> At
-    requires { ⌜ Fits (now gates) at (length (now word)) ⌝ }
-    ensures { λ r. ⌜ r .n ≡ at .n + length (now (word .entry)) ⌝ }
-{
-    let mut next = at;
-    let mut i = 0;
-    while i < word.len() {
-        let m = input_bit(gates, next, node, i as u32);
-        word[i] = m.bit;
-        next = m.at;
-        i += 1;
-    }
-    next
 }
 
 // A word that is one bit, and known false above it.
@@ -120,6 +90,13 @@ fn eq(gates: &mut [u32], at: At, left: &[u32], right: &[u32], out: &mut [u32]) -
     put_bit(equal, out)
 }
 
+fn mul(gates: &mut [u32], at: At, left: &[u32], right: &[u32], out: &mut [u32]) -> At
+    requires { ⌜ Few (now gates) at × Four (now left) × Four (now right) × Four (now out) ⌝ }
+    ensures { λ r. ⌜ Room (now (gates .entry)) (r .n) ⌝ }
+{
+    mul_words(gates, at, left, right, 4, out)
+}
+
 fn lower(op: Op, gates: &mut [u32], at: At, left: &[u32], right: &[u32], out: &mut [u32]) -> At
     requires { ⌜ Few (now gates) at × Four (now left) × Four (now right) × Four (now out) ⌝ }
     ensures { λ r. ⌜ Room (now (gates .entry)) (r .n) ⌝ }
@@ -129,49 +106,8 @@ fn lower(op: Op, gates: &mut [u32], at: At, left: &[u32], right: &[u32], out: &m
         Op::Sub => sub(gates, at, left, right, out),
         Op::Ult => ult(gates, at, left, right, out),
         Op::Eq => eq(gates, at, left, right, out),
+        Op::Mul => mul(gates, at, left, right, out),
     }
-}
-
-// A number's digits, lowest first, as the values of a word's bits.
-fn give(values: &mut [u8], bits: &[u32], x: u64) {
-    let mut rest = x;
-    let mut i = 0;
-    while i < bits.len() {
-        give_bit(values, bits[i], (rest % 2) as u8);
-        rest = rest / 2;
-        i += 1;
-    }
-}
-
-fn give_bit(values: &mut [u8], bit: u32, value: u8) {
-    let k = bit as usize;
-    if k < values.len() {
-        values[k] = value;
-    }
-}
-
-fn wide(x: u8) -> u64 {
-    x as u64
-}
-
-// The value of a bit; 16, which is too much for a word, where there is none.
-fn value_of(values: &[u8], bit: u32) -> u64 {
-    let k = bit as usize;
-    if k < values.len() {
-        return wide(values[k]);
-    }
-    16
-}
-
-// The number that a word's bits say.
-fn number_of(values: &[u8], bits: &[u32]) -> u64 {
-    let mut x = 0;
-    let mut i = bits.len();
-    while 0 < i {
-        i -= 1;
-        x = (x << 1) | value_of(values, bits[i]);
-    }
-    x
 }
 
 // Whether the gates say of a pair what the arithmetic says.
@@ -212,10 +148,10 @@ fn count(
     differ
 }
 
-// One operation, into a gate list of its own. There is room for 32 gates: 10 stand before it, and no operation makes more than 17.
+// One operation, into a gate list of its own. There is room for 64 gates: 10 stand before it, and no operation makes more than 40.
 fn run(name: &[u8], op: Op) {
-    let mut gates = [0u32; 128];
-    let mut values = [0u8; 32];
+    let mut gates = [0u32; 256];
+    let mut values = [0u8; 64];
     let mut left = [0u32; 4];
     let mut right = [0u32; 4];
     let mut out = [0u32; 4];
@@ -233,4 +169,5 @@ fn main() {
     run(b"sub", Op::Sub);
     run(b"ult", Op::Ult);
     run(b"eq", Op::Eq);
+    run(b"mul", Op::Mul);
 }
