@@ -128,7 +128,7 @@ module _ (w : ℕ) (quot den : List ℕ) (s : Checked) (small : w ≤ 65) (wide 
       b = placed-law w i m (r .out) (record { net = u .net; carry = 0; out = x .out }) (omega arith) (omega (arith, h .long))
 
       y : Cons
-      y = constrain (constrainEach (u .out) 0 i (x .cons)) (c .carry) 0
+      y = rowStep w quot den i x .cons
 
       law : ConLaw (λ n. Below n (u .out) i × (c .carry < n)) (λ e. All (u .out) 0 i e × (bit (e (c .carry)) ≡ 0)) (x .cons) y (i + 1)
       law = then-law (each-law (u .out) 0 (omega arith) (x .cons) i) (one-law (constrainEach (u .out) 0 i (x .cons)) (c .carry) 0 (omega arith))
