@@ -11,3 +11,4 @@ pub mod StartLaws
 pub mod SmallLaws
 pub mod Paths
 pub mod Facts
+pub mod WordFacts
