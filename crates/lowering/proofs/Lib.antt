@@ -26,3 +26,4 @@ pub mod RightLower
 pub mod Demands
 pub mod Paths
 pub mod Facts
+pub mod WordFacts

@@ -76,7 +76,7 @@ unfolding bitCost
 choose-cost c left right w = sum-most (λ j. bitCost (op.Choose c) (getD left j 0) (getD right j 0)) 3 w (λ j l. omega arith)
 
 pub choose-word-path : (c a b to w i : ℕ) (g g′ word map map′ : List ℕ) (n n′ : At)
-    → wordOf g′ n′ word ≡ eachBit (op.Choose c) (take (a + i * w + w - (a + i * w)) (drop (a + i * w) map)) (take (b + i * w + w - (b + i * w)) (drop (b + i * w) map)) w (wordOf g n blank)
+    → wordOf g′ n′ word ≡ eachBit (op.Choose (getD map c 0)) (take (a + i * w + w - (a + i * w)) (drop (a + i * w) map)) (take (b + i * w + w - (b + i * w)) (drop (b + i * w) map)) w (wordOf g n blank)
     → map′ ≡ putBits (to + i * w) word w map → wordOf g′ n′ map′ ≡ placed to w (choices c a b w) i (wordOf g n map)
 unfolding placed choices
 choose-word-path c a b to w i g g′ word map map′ n n′ e h =
@@ -89,7 +89,7 @@ unfolding placed choices
 choose-words-next c a b to w i s t e =
     let left : List ℕ = take w (drop (a + i * w) (s .out)) in
     let right : List ℕ = take w (drop (b + i * w) (s .out)) in
-    omega (arith, ap (λ (x : Word). x .net .n) e, each-ext (op.Choose c) left right (fresh (s .net)) w .grows .upto, choose-cost c left right w)
+    omega (arith, ap (λ (x : Word). x .net .n) e, each-ext (op.Choose (getD (s .out) c 0)) left right (fresh (s .net)) w .grows .upto, choose-cost (getD (s .out) c 0) left right w)
 
 -- the plain words
 pub blank-room : (out : List ℕ) → out ≡ blank → length out ≡ 65

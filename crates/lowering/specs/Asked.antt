@@ -1,8 +1,14 @@
 -- What the functions that make a node's own step ask for, and what they answer for a part of the state.
 use mathlib.Core.Path.{_≡_}
 use mathlib.Core.List.{List}
+use mathlib.Core.Bool.{false}
 use Prim.Native.Nat.{ℕ, _+_, _*_, _≤_, _<_}
+use lib.Dec.{eqb}
 use lib.ListN.{length}
+use Rattle.loops.specs.Loop.{pick}
+use Rattle.table.specs.declared.Node.{Node}
+use Rattle.table.specs.Kind.{NOT, ITE, READ, WRITE, divides}
+use Rattle.table.specs.Node.{given}
 use Rattle.table.specs.declared.Fault.the-variants.{Clear}
 use Rattle.table.specs.declared.Unit.the-variants.{Bit}
 use Rattle.table.specs.Sheet.{tableFault}
@@ -14,6 +20,7 @@ use Rattle.visits.specs.Flow.{Core}
 use Rattle.visits.specs.Claims.{Is}
 use Rattle.lowering.specs.declared.place.Place.{Place}
 use Rattle.lowering.specs.Source.{Source, listed, wordsOf, wideOf, offOf, totalOf, gatesOf}
+use Rattle.lowering.specs.Own.{shares}
 use Rattle.lowering.specs.Lower.{recipe}
 
 -- node k of a table without fault, its offsets worked out, over a map of `long` places
@@ -42,3 +49,16 @@ Turned f s m s′ m′ = (c : List ℕ) (nc stop : ℕ) → coreAt s′ c nc m�
 -- the same of a step that makes no gate
 abbrev pub Mapped : (Core → Core) → List ℕ → List ℕ → Type 0
 Mapped f m m′ = (s : Net) → Turned f s m s m′
+
+-- a node that is neither given nor shared, a choice, a division, a read or a write
+pub record Plain (d : Node) : Type 0 where
+  pub given : given d ≡ false
+  pub shares : shares d ≡ false
+  pub chooses : eqb (d .kind) ITE ≡ false
+  pub divides : divides (d .kind) ≡ false
+  pub reads : eqb (d .kind) READ ≡ false
+  pub writes : eqb (d .kind) WRITE ≡ false
+
+-- the second operand; a not has but one, which then stands for both
+abbrev pub rightOf : Node → ℕ
+rightOf d = pick (eqb (d .kind) NOT) (d .a) (d .b)

@@ -1,7 +1,7 @@
 -- A node's words, one after the other, to their places in the bit map: what the code does over places alone.
 use mathlib.Core.List.{List}
 use Prim.Native.Nat.{ℕ, _+_, _*_}
-use lib.ListN.{set, take, drop}
+use lib.ListN.{getD, set, take, drop}
 use Rattle.loops.specs.Loop.{iter}
 use Rattle.table.specs.declared.Node.{Node}
 use Rattle.gates.specs.Made.{MadeBit}
@@ -18,9 +18,9 @@ placed to w f i x = asIs (f i x .net) (putBits (to + i * w) (f i x .out) w (x .o
 unfoldable pub inputs : ℕ → ℕ → ℕ → Word → Word
 inputs node w i x = iter w (inputStep node (i * w)) (fresh (x .net))
 
--- a choice between words i of those from a and from b on
+-- a choice by the bit at place c between words i of those from a and from b on
 unfoldable pub choices : ℕ → ℕ → ℕ → ℕ → ℕ → Word → Word
-choices c a b w i x = eachBit (op.Choose c) (take w (drop (a + i * w) (x .out))) (take w (drop (b + i * w) (x .out))) w (fresh (x .net))
+choices c a b w i x = eachBit (op.Choose (getD (x .out) c 0)) (take w (drop (a + i * w) (x .out))) (take w (drop (b + i * w) (x .out))) w (fresh (x .net))
 
 -- word i of those from `from` on, v wide, shared by word i of those from `to` on, w wide
 unfoldable pub shareAt : ℕ → ℕ → ℕ → ℕ → ℕ → List ℕ → List ℕ

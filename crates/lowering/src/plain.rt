@@ -12,12 +12,17 @@ ghost use Rattle.words.specs.Each.{wordOf, putBits};
 ghost use Rattle.words.specs.Add.{chainOf, addWords};
 ghost use Rattle.words.specs.Sub.{subWords, ultWords};
 ghost use Rattle.words.specs.Eq.{eqWords};
-ghost use Rattle.lowering.specs.Own.{ofChain, plainWord};
+ghost use Rattle.table.specs.Node.{nodeAt};
+ghost use Rattle.lowering.specs.Source.{source};
+ghost use Rattle.lowering.specs.Own.{ofChain, plainWord, wordOwn, eachWord};
 ghost use Rattle.lowering.specs.Place.{inFront, plainAt};
+ghost use Rattle.lowering.specs.Asked.{Makes, Turned, Plain, rightOf};
+use crate::place::place_of;
 use gates::made::At;
 use table::Node;
 use table::kind::ADD;
 use table::kind::AND;
+use table::kind::CONST;
 use table::kind::EQ;
 use table::kind::MUL;
 use table::kind::NOT;
@@ -147,4 +152,40 @@ pub fn const_node(number: u64, w: usize, to: usize, map: &mut [u32])
     let mut word = [0u32; 65];
     digits::put_digits(number, w, &mut word);
     each::put_bits(map, to, &word, w);
+}
+
+// The second operand; a not has but one, which then stands for both.
+fn right_of(node: Node) -> u64
+    ensures { λ r. ⌜ r ≡ rightOf node ⌝ }
+{
+    if node.kind == NOT {
+        return node.a;
+    }
+    node.b
+}
+
+// The own step of a node that is one word, made of its operands' words or of its number.
+pub fn word_node(
+    table: &[u64],
+    addrs: &[u64],
+    word: u64,
+    offs: &[usize],
+    gates: &mut [u32],
+    at: At,
+    map: &mut [u32],
+    k: usize,
+    node: Node,
+) -> At
+    requires { ⌜ Makes (source (now table) (now addrs) word) (now offs) (now gates) at (length (now map)) k × (node ≡ nodeAt (now table) k) × Plain node ⌝ }
+    ensures { λ r. ⌜ Turned (eachWord (source (now (table .entry)) (now (addrs .entry)) word) k (wordOwn (source (now (table .entry)) (now (addrs .entry)) word) k)) (netOf (now (gates .entry)) at) (now (map .entry)) (netOf (now (gates .exit)) r) (now (map .exit)) ⌝ }
+{
+    let place = place_of(table, addrs, word, offs, k);
+    if node.kind == CONST {
+        const_node(node.imm, place.wide, place.off, map);
+        return at;
+    }
+    let left = place_of(table, addrs, word, offs, node.a as usize);
+    let right = right_of(node) as usize;
+    let second = offs[right];
+    plain_node(gates, at, node, left.wide, left.off, second, place.off, map)
 }

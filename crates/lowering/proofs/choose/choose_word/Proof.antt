@@ -1,5 +1,5 @@
 use native.Mathlib.Omega.{arith}
-use lib.ListN.{take, drop}
+use lib.ListN.{take, drop, getD}
 use Prim.Native.Nat.{_+_, _*_, _-_}
 use Rattle.words.specs.Num.{blank}
 use Rattle.lowering.proofs.Paths.{choose-cost, choose-word-path}
@@ -10,6 +10,12 @@ use Rattle.lowering.proofs.choose.choose_word.Reads as reads
 use Rattle.lowering.proofs.choose.choose_word.Lts as lts
 use Rattle.words.proofs.each.each_bit.Reads as each-bit-reads
 use Rattle.words.proofs.each.put_bits.Reads as put-bits-reads
+
+mul-bit : tie.Need-mul-bit
+mul-bit c = search needs
+
+slice-read-bit : tie.Need-slice-read-bit
+slice-read-bit c = search needs
 
 mul-left : tie.Need-mul-left
 mul-left c = search needs
@@ -58,9 +64,9 @@ slice-aggregate-each-bit c = search needs
 
 each-bit-requires : tie.Need-each-bit-requires
 each-bit-requires c κs =
-    let a = c .before .before .before .before .before .before .before .args .a + c .before .before .before .before .before .before .before .args .i * c .before .before .before .before .before .before .before .args .w in
-    let b = c .before .before .before .before .before .before .before .args .b + c .before .before .before .before .before .before .before .args .i * c .before .before .before .before .before .before .before .args .w in
-    omega (arith, choose-cost (c .before .before .before .before .before .before .before .args .cond) (take (a + c .before .before .before .before .before .before .before .args .w - a) (drop a (c .before .before .before .before .before .before .before .args .map .now))) (take (b + c .before .before .before .before .before .before .before .args .w - b) (drop b (c .before .before .before .before .before .before .before .args .map .now))) (c .before .before .before .before .before .before .before .args .w))
+    let a = c .before .before .before .before .before .before .before .before .args .a + c .before .before .before .before .before .before .before .before .args .i * c .before .before .before .before .before .before .before .before .args .w in
+    let b = c .before .before .before .before .before .before .before .before .args .b + c .before .before .before .before .before .before .before .before .args .i * c .before .before .before .before .before .before .before .before .args .w in
+    omega (arith, choose-cost (getD (c .before .before .before .before .before .before .before .before .args .map .now) (c .before .before .before .before .before .before .before .before .args .cond) 0) (take (a + c .before .before .before .before .before .before .before .before .args .w - a) (drop a (c .before .before .before .before .before .before .before .before .args .map .now))) (take (b + c .before .before .before .before .before .before .before .before .args .w - b) (drop b (c .before .before .before .before .before .before .before .before .args .map .now))) (c .before .before .before .before .before .before .before .before .args .w))
 
 mul-put-bits : tie.Need-mul-put-bits
 mul-put-bits c = search needs
@@ -82,12 +88,14 @@ same-length-2 c = search needs
 
 returns : tie.Need-returns
 unfolding blank
-returns c = choose-word-path (c .before .before .before .before .before .before .before .before .before .before .before .before .before .before .before .before .args .cond) (c .before .before .before .before .before .before .before .before .before .before .before .before .before .before .before .before .args .a) (c .before .before .before .before .before .before .before .before .before .before .before .before .before .before .before .before .args .b) (c .before .before .before .before .before .before .before .before .before .before .before .before .before .before .before .before .args .to) (c .before .before .before .before .before .before .before .before .before .before .before .before .before .before .before .before .args .w) (c .before .before .before .before .before .before .before .before .before .before .before .before .before .before .before .before .args .i) _ _ _ (c .before .before .before .before .before .before .before .before .before .before .before .before .before .before .before .before .args .map .now) _ _ _ (c .before .before .before .before .before .before .before .before .each-bit .ensures) (c .before .before .put-bits .ensures)
+returns c = choose-word-path (c .before .before .before .before .before .before .before .before .before .before .before .before .before .before .before .before .before .args .cond) (c .before .before .before .before .before .before .before .before .before .before .before .before .before .before .before .before .before .args .a) (c .before .before .before .before .before .before .before .before .before .before .before .before .before .before .before .before .before .args .b) (c .before .before .before .before .before .before .before .before .before .before .before .before .before .before .before .before .before .args .to) (c .before .before .before .before .before .before .before .before .before .before .before .before .before .before .before .before .before .args .w) (c .before .before .before .before .before .before .before .before .before .before .before .before .before .before .before .before .before .args .i) _ _ _ (c .before .before .before .before .before .before .before .before .before .before .before .before .before .before .before .before .before .args .map .now) _ _ _ (c .before .before .before .before .before .before .before .before .each-bit .ensures) (c .before .before .put-bits .ensures)
 
 pub choose-word-spec : {M : Type 1} → statement M
 choose-word-spec =
     tie.close
     (tie.spec
+    mul-bit
+    slice-read-bit
     mul-left
     add-left
     mul-right
