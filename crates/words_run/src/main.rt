@@ -1,4 +1,4 @@
-// Lowers operations on two words of four given bits, and holds the gates against arithmetic at every pair of numbers.
+// Lowers operations on two words of four given bits, and holds the gates against the word evaluator at every pair of numbers.
 ghost use mathlib.Core.Path.{_≡_};
 ghost use Prim.Native.Nat.{_+_, _≤_, _<_};
 ghost use lib.ListN.{length};
@@ -9,10 +9,18 @@ use gates::made::Made;
 use netlist::check::is_done;
 use netlist::eval::eval_gates;
 use netlist::record;
+use table::kind::ADD;
+use table::kind::EQ;
+use table::kind::INPUT;
+use table::kind::MUL;
+use table::kind::SUB;
+use table::kind::ULT;
 use trial::constants;
 use trial::give;
 use trial::input_word;
 use trial::number_of;
+use values::eval::eval_words;
+use values::eval::number;
 use words::add::add_words;
 use words::eq::eq_words;
 use words::mul::mul_words;
@@ -27,26 +35,36 @@ enum Op {
     Mul,
 }
 
-// A product by repeated sums.
-fn product(x: u64, y: u64) -> u64 {
-    let mut sum = 0;
-    let mut i = 0;
-    while i < y {
-        sum = std::num::wrapping_add_u64(sum, x);
-        i += 1;
+fn kind(op: Op) -> u64 {
+    match op {
+        Op::Add => ADD,
+        Op::Sub => SUB,
+        Op::Ult => ULT,
+        Op::Eq => EQ,
+        Op::Mul => MUL,
     }
-    sum
 }
 
-// What the arithmetic says.
-fn wanted(op: Op, x: u64, y: u64) -> u64 {
+fn width(op: Op) -> u64 {
     match op {
-        Op::Add => std::num::wrapping_add_u64(x, y) % 16,
-        Op::Sub => std::num::wrapping_sub_u64(x, y) % 16,
-        Op::Ult => (x < y) as u64,
-        Op::Eq => (x == y) as u64,
-        Op::Mul => product(x, y) % 16,
+        Op::Add => 4,
+        Op::Sub => 4,
+        Op::Ult => 1,
+        Op::Eq => 1,
+        Op::Mul => 4,
     }
+}
+
+// What the word evaluator says of the operation, as node 3 over the inputs 1 and 2; 16, which no four bits are, if it refuses.
+fn wanted(op: Op, x: u64, y: u64) -> u64 {
+    let table = [INPUT, 4, 0, 0, 0, 0, INPUT, 4, 0, 0, 0, 0, kind(op), width(op), 1, 2, 0, 0];
+    let addresses = [0u64; 0];
+    let mut words = [x, y, 16];
+    let answer = eval_words(&table, &addresses, 4, &mut words);
+    if number(answer) != 0 {
+        return 16;
+    }
+    words[2]
 }
 
 // A word that is one bit, and known false above it.
@@ -110,7 +128,7 @@ fn lower(op: Op, gates: &mut [u32], at: At, left: &[u32], right: &[u32], out: &m
     }
 }
 
-// Whether the gates say of a pair what the arithmetic says.
+// Whether the gates say of a pair what the word evaluator says.
 fn same(
     op: Op,
     gates: &[u32],
