@@ -57,7 +57,26 @@ fn width(op: Op) -> u64 {
 
 // What the word evaluator says of the operation, as node 3 over the inputs 1 and 2; 16, which no four bits are, if it refuses.
 fn wanted(op: Op, x: u64, y: u64) -> u64 {
-    let table = [INPUT, 4, 0, 0, 0, 0, INPUT, 4, 0, 0, 0, 0, kind(op), width(op), 1, 2, 0, 0];
+    let table = [
+        INPUT,
+        4,
+        0,
+        0,
+        0,
+        0,
+        INPUT,
+        4,
+        0,
+        0,
+        0,
+        0,
+        kind(op),
+        width(op),
+        1,
+        2,
+        0,
+        0,
+    ];
     let addresses = [0u64; 0];
     let mut words = [x, y, 16];
     let answer = eval_words(&table, &addresses, 4, &mut words);
