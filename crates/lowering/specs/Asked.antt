@@ -50,6 +50,10 @@ Turned f s m s′ m′ = (c : List ℕ) (nc stop : ℕ) → coreAt s′ c nc m�
 abbrev pub Mapped : (Core → Core) → List ℕ → List ℕ → Type 0
 Mapped f m m′ = (s : Net) → Turned f s m s m′
 
+-- the same of a step that also records constraints
+abbrev pub Counted : (Core → Core) → Net → List ℕ → ℕ → List ℕ → Net → List ℕ → ℕ → List ℕ → Type 0
+Counted f s c nc m s′ c′ nc′ m′ = (stop : ℕ) → coreAt s′ c′ nc′ m′ stop ≡ f (coreAt s c nc m stop)
+
 -- a node that is neither given nor shared, a choice, a division, a read or a write
 pub record Plain (d : Node) : Type 0 where
   pub given : given d ≡ false
