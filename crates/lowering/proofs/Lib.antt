@@ -11,6 +11,7 @@ pub mod StartLaws
 pub mod SmallLaws
 pub mod MeaningPlaces
 pub mod Meaning
+pub mod OwnKinds
 pub mod RightWords
 pub mod RightOperands
 pub mod RightPlain
@@ -27,3 +28,5 @@ pub mod Demands
 pub mod Paths
 pub mod Facts
 pub mod WordFacts
+pub mod OwnFacts
+pub mod VisitFacts

@@ -3,15 +3,13 @@
 use mathlib.Core.Path.{_≡_, refl, ap, _∙_}
 use mathlib.Core.List.{List}
 use mathlib.Core.Logic.{_⊎_, inl, inr}
-use mathlib.Core.Bool.{Bool, true, false, _||_}
+use mathlib.Core.Bool.{Bool, true, false}
 use Prim.Native.Nat.{ℕ, _<_}
 use native.Mathlib.Omega.{arith}
 use lib.Dec.{eqb}
-use borrow.Author.Tests.{eq-eqb, eqb-true}
-use Rattle.loops.specs.Loop.{pick}
-use Rattle.loops.proofs.Loop.{by-pick, pick-true, pick-false, either}
-use Rattle.table.specs.declared.Node.{Node}
-use Rattle.table.specs.Kind.{STATE, BAD, EXT, ITE, DIVU, REM, READ, WRITE, divides}
+use borrow.Author.Tests.{eq-eqb}
+use Rattle.loops.proofs.Loop.{by-pick}
+use Rattle.table.specs.Kind.{STATE, ITE, divides}
 use Rattle.table.specs.Node.{widthOf, given}
 use Rattle.table.proofs.Whole.{Rule, is-const, is-input, is-state, is-not, is-bad, is-and, is-ext, is-eq, is-add, is-ite, is-sub, is-ult, is-mul, is-divu, is-rem, is-read, is-write}
 use Rattle.values.proofs.Seen.{initial}
@@ -20,12 +18,13 @@ use Rattle.words.specs.Each.{Word}
 use Rattle.visits.specs.Flow.{Core}
 use Rattle.visits.specs.Claims.{Ready, StepRight, OwnRight}
 use Rattle.lowering.specs.Source.{Source, nodeOf, wordsOf, conditionOf, secondOf, blockedOf}
-use Rattle.lowering.specs.Own.{shares, eachWord, inputWord, shareWord, chooseWord, readWord, wordOwn, iteOwn, divideOwn, writeOwn, madeBy, ownStep}
+use Rattle.lowering.specs.Own.{eachWord, inputWord, shareWord, chooseWord, readWord, wordOwn, iteOwn, madeBy, ownStep}
 use Rattle.lowering.specs.Lower.{recipe}
 use Rattle.lowering.specs.Meaning.{meaning}
 use Rattle.lowering.proofs.MemoryLaws.{ReadsOwed, WritesOwed}
 use Rattle.lowering.proofs.DivisionLaws.{DividesOwed, KnownOwed}
 use Rattle.lowering.proofs.Places.{sound-of}
+use Rattle.lowering.proofs.OwnKinds.{by-input, by-share, by-ite, by-divide, by-read, by-write, by-word}
 use Rattle.lowering.proofs.Meaning.{Evaluated}
 use Rattle.lowering.proofs.RightWords.{OwnWord, words-right}
 use Rattle.lowering.proofs.RightPlain.{const-made, not-made, and-made, eq-made, add-made, sub-made, ult-made, mul-made}
@@ -35,56 +34,6 @@ use Rattle.lowering.proofs.RightChoice.{known-made, choose-made}
 use Rattle.lowering.proofs.RightRead.{read-made}
 use Rattle.lowering.proofs.RightWrite.{write-right}
 use Rattle.lowering.proofs.RightDivide.{division-right}
-
-neither : (p q : Bool) → (p || q) ≡ false → (p ≡ false) × (q ≡ false)
-neither true q e = absurd (let z : _≡_ {A = ℕ} 0 1 = cc in omega arith)
-neither false q e = (refl, e)
-
--- the own step by its kind: an input, shared words, and the words made from words
-module _ (S : Source) (k : ℕ) (s : Core) where
-  abbrev d : Node
-  d = nodeOf S k
-
-  by-input : given d ≡ true → madeBy S k s ≡ eachWord S k (inputWord S k) s
-  unfolding madeBy
-  by-input g = pick-true _ _ _ g
-
-  by-share : (n : ℕ) → d .kind ≡ n → (n ≡ BAD) ⊎ (n ≡ EXT) → madeBy S k s ≡ eachWord S k (shareWord S (d .a)) s
-  unfolding madeBy pick
-  by-share n e (inl q) = rw (e, q)
-  by-share n e (inr q) = rw (e, q)
-
-  by-state : d .kind ≡ STATE → given d ≡ false → madeBy S k s ≡ eachWord S k (shareWord S (d .a)) s
-  unfolding madeBy pick
-  by-state e g = rw (g, e)
-
-  by-ite : d .kind ≡ ITE → madeBy S k s ≡ iteOwn S k s
-  unfolding madeBy pick
-  by-ite e = rw e
-
-  by-divide : divides (d .kind) ≡ true → madeBy S k s ≡ divideOwn S k s
-  unfolding madeBy pick
-  by-divide h = either (eqb (d .kind) DIVU) (eqb (d .kind) REM) _ (λ e. rw (eqb-true (d .kind) DIVU e)) (λ e. rw (eqb-true (d .kind) REM e)) h
-
-  by-read : d .kind ≡ READ → madeBy S k s ≡ eachWord S k (readWord S k) s
-  unfolding madeBy pick
-  by-read e = rw e
-
-  by-write : d .kind ≡ WRITE → madeBy S k s ≡ writeOwn S k s
-  unfolding madeBy pick
-  by-write e = rw e
-
-  -- none of the above
-  by-word : (given d || shares d || eqb (d .kind) ITE || divides (d .kind) || eqb (d .kind) READ || eqb (d .kind) WRITE) ≡ false → madeBy S k s ≡ eachWord S k (wordOwn S k) s
-  unfolding madeBy
-  by-word f =
-      let p = neither (given d || shares d || eqb (d .kind) ITE || divides (d .kind) || eqb (d .kind) READ) (eqb (d .kind) WRITE) f in
-      let q = neither (given d || shares d || eqb (d .kind) ITE || divides (d .kind)) (eqb (d .kind) READ) (p .0) in
-      let r = neither (given d || shares d || eqb (d .kind) ITE) (divides (d .kind)) (q .0) in
-      let u = neither (given d || shares d) (eqb (d .kind) ITE) (r .0) in
-      let v = neither (given d) (shares d) (u .0) in
-      pick-false _ _ _ (v .0)
-      ∙ (pick-false _ _ _ (v .1) ∙ (pick-false _ _ _ (u .1) ∙ (pick-false _ _ _ (r .1) ∙ (pick-false _ _ _ (q .1) ∙ pick-false _ _ _ (p .1)))))
 
 module _ {S : Source} {x : List ℕ} (v : Evaluated S x) (reads : ReadsOwed S) (writes : WritesOwed S) (gates : DividesOwed) (numbers : KnownOwed) (k : ℕ) (s : Core) (ready : Ready (recipe S) k s)
     (goes : blockedOf S (s .map) k ≡ false) where
@@ -103,7 +52,7 @@ module _ {S : Source} {x : List ℕ} (v : Evaluated S x) (reads : ReadsOwed S) (
   state-right e z true g = given-right (ap divides e) g
   state-right e (inl z) false g = absurd (omega (arith, initial (nodeOf S k) e g))
   state-right e (inr z) false g =
-      each (shareWord S (nodeOf S k .a)) (by-state S k s e g) (ap divides e) (λ i t lt. state-made v (ready .is) (s .map) i t lt e g (initial (nodeOf S k) e g) z)
+      each (shareWord S (nodeOf S k .a)) (by-share S k s g (rw e)) (ap divides e) (λ i t lt. state-made v (ready .is) (s .map) i t lt e g (initial (nodeOf S k) e g) z)
 
   ite-right : nodeOf S k .kind ≡ ITE → widthOf (S .table) (nodeOf S k .a) ≡ 1 → widthOf (S .table) (nodeOf S k .b) ≡ nodeOf S k .width → widthOf (S .table) (nodeOf S k .c) ≡ nodeOf S k .width → Good (madeBy S k s)
   unfolding iteOwn
@@ -114,19 +63,19 @@ module _ {S : Source} {x : List ℕ} (v : Evaluated S x) (reads : ReadsOwed S) (
       (λ h. words-right S x k s (chooseWord S k) (v .clear) ready (ap divides e) (λ i t lt. choose-made v (ready .is) e p q r (s .map) i t lt h)))
 
   by-rule : Rule (S .word) (nodeOf S k) (widthOf (S .table) (nodeOf S k .a)) (widthOf (S .table) (nodeOf S k .b)) (widthOf (S .table) (nodeOf S k .c)) → Good (madeBy S k s)
-  by-rule (is-const e h g) = each (wordOwn S k) (by-word S k s (rw e)) (ap divides e) (λ i t lt. const-made v (ready .is) (s .map) i t lt e h g)
+  by-rule (is-const e h g) = each (wordOwn S k) (by-word S k s (record { given = rw e; shares = rw e; chooses = rw e; divides = rw e; reads = rw e; writes = rw e })) (ap divides e) (λ i t lt. const-made v (ready .is) (s .map) i t lt e h g)
   by-rule (is-input e) = given-right (ap divides e) (rw e)
   by-rule (is-state e z) = state-right e z (given (nodeOf S k)) refl
-  by-rule (is-not e h z) = each (wordOwn S k) (by-word S k s (rw e)) (ap divides e) (λ i t lt. not-made v (ready .is) (s .map) i t lt e h z)
-  by-rule (is-bad e h z) = each (shareWord S (nodeOf S k .a)) (by-share S k s BAD e (inl refl)) (ap divides e) (λ i t lt. bad-made v (ready .is) (s .map) i t lt e h z)
-  by-rule (is-and e z) = each (wordOwn S k) (by-word S k s (rw e)) (ap divides e) (λ i t lt. and-made v (ready .is) (s .map) i t lt e z)
-  by-rule (is-ext e h z) = each (shareWord S (nodeOf S k .a)) (by-share S k s EXT e (inr refl)) (ap divides e) (λ i t lt. ext-made v (ready .is) (s .map) i t lt e h z)
-  by-rule (is-eq e z) = each (wordOwn S k) (by-word S k s (rw e)) (ap divides e) (λ i t lt. eq-made v (ready .is) (s .map) i t lt e z)
-  by-rule (is-add e z) = each (wordOwn S k) (by-word S k s (rw e)) (ap divides e) (λ i t lt. add-made v (ready .is) (s .map) i t lt e z)
+  by-rule (is-not e h z) = each (wordOwn S k) (by-word S k s (record { given = rw e; shares = rw e; chooses = rw e; divides = rw e; reads = rw e; writes = rw e })) (ap divides e) (λ i t lt. not-made v (ready .is) (s .map) i t lt e h z)
+  by-rule (is-bad e h z) = each (shareWord S (nodeOf S k .a)) (by-share S k s (rw e) (rw e)) (ap divides e) (λ i t lt. bad-made v (ready .is) (s .map) i t lt e h z)
+  by-rule (is-and e z) = each (wordOwn S k) (by-word S k s (record { given = rw e; shares = rw e; chooses = rw e; divides = rw e; reads = rw e; writes = rw e })) (ap divides e) (λ i t lt. and-made v (ready .is) (s .map) i t lt e z)
+  by-rule (is-ext e h z) = each (shareWord S (nodeOf S k .a)) (by-share S k s (rw e) (rw e)) (ap divides e) (λ i t lt. ext-made v (ready .is) (s .map) i t lt e h z)
+  by-rule (is-eq e z) = each (wordOwn S k) (by-word S k s (record { given = rw e; shares = rw e; chooses = rw e; divides = rw e; reads = rw e; writes = rw e })) (ap divides e) (λ i t lt. eq-made v (ready .is) (s .map) i t lt e z)
+  by-rule (is-add e z) = each (wordOwn S k) (by-word S k s (record { given = rw e; shares = rw e; chooses = rw e; divides = rw e; reads = rw e; writes = rw e })) (ap divides e) (λ i t lt. add-made v (ready .is) (s .map) i t lt e z)
   by-rule (is-ite e p q r) = ite-right e p q r
-  by-rule (is-sub e z) = each (wordOwn S k) (by-word S k s (rw e)) (ap divides e) (λ i t lt. sub-made v (ready .is) (s .map) i t lt e z)
-  by-rule (is-ult e z) = each (wordOwn S k) (by-word S k s (rw e)) (ap divides e) (λ i t lt. ult-made v (ready .is) (s .map) i t lt e z)
-  by-rule (is-mul e z) = each (wordOwn S k) (by-word S k s (rw e)) (ap divides e) (λ i t lt. mul-made v (ready .is) (s .map) i t lt e z)
+  by-rule (is-sub e z) = each (wordOwn S k) (by-word S k s (record { given = rw e; shares = rw e; chooses = rw e; divides = rw e; reads = rw e; writes = rw e })) (ap divides e) (λ i t lt. sub-made v (ready .is) (s .map) i t lt e z)
+  by-rule (is-ult e z) = each (wordOwn S k) (by-word S k s (record { given = rw e; shares = rw e; chooses = rw e; divides = rw e; reads = rw e; writes = rw e })) (ap divides e) (λ i t lt. ult-made v (ready .is) (s .map) i t lt e z)
+  by-rule (is-mul e z) = each (wordOwn S k) (by-word S k s (record { given = rw e; shares = rw e; chooses = rw e; divides = rw e; reads = rw e; writes = rw e })) (ap divides e) (λ i t lt. mul-made v (ready .is) (s .map) i t lt e z)
   by-rule (is-divu e z) = rw (by-divide S k s (ap divides e)) (division-right v gates numbers (ap divides e) z s ready goes)
   by-rule (is-rem e z) = rw (by-divide S k s (ap divides e)) (division-right v gates numbers (ap divides e) z s ready goes)
   by-rule (is-read e h p q) = each (readWord S k) (by-read S k s e) (ap divides e) (λ i t lt. read-made v (ready .is) reads e h p q (s .map) i t lt)

@@ -44,7 +44,7 @@ module _ (S : Source) (k : ℕ) (F : ℕ → Core → Word) (one : wordsOf S k �
       let z : offOf S k + 0 * wideOf S k ≡ offOf S k = omega arith in
       rw (one, z, e) (ap {B = Core} (λ (y : Word). coreAt (y .net) c nc (putBits (offOf S k) (y .out) (wideOf S k) m) stop) (f c nc stop))
 
-clash : {A : Type 0} → _≡_ {A = Bool} true false → A
+pub clash : {A : Type 0} → _≡_ {A = Bool} true false → A
 clash e = absurd (let z : _≡_ {A = ℕ} 0 1 = cc e in omega arith)
 
 -- what is made of operands' words: how wide they are, and what it may cost

@@ -8,18 +8,21 @@ use lib.ListN.{length}
 use Rattle.loops.specs.Loop.{pick}
 use Rattle.table.specs.declared.Node.{Node}
 use Rattle.table.specs.Kind.{NOT, ITE, READ, WRITE, divides}
-use Rattle.table.specs.Node.{given}
+use Rattle.table.specs.Node.{nodes, given}
 use Rattle.table.specs.declared.Fault.the-variants.{Clear}
 use Rattle.table.specs.declared.Unit.the-variants.{Bit}
 use Rattle.table.specs.Sheet.{tableFault}
 use Rattle.table.specs.Size.{Offsets}
 use Rattle.netlist.specs.Net.{Net}
+use Rattle.netlist.specs.Record.{Room}
 use Rattle.gates.specs.declared.made.At.{At}
 use Rattle.gates.specs.Made.{netOf, Fits}
-use Rattle.visits.specs.Flow.{Core}
-use Rattle.visits.specs.Claims.{Is}
+use Rattle.division.specs.Constraint.{conUsed}
+use Rattle.visits.specs.Flow.{Core, Low, enter, visitTo}
+use Rattle.visits.specs.Claims.{Is, left}
+use Rattle.lowering.specs.declared.own.Progress.{Progress}
 use Rattle.lowering.specs.declared.place.Place.{Place}
-use Rattle.lowering.specs.Source.{Source, listed, wordsOf, wideOf, offOf, totalOf, gatesOf}
+use Rattle.lowering.specs.Source.{Source, listed, wordsOf, wideOf, offOf, totalOf, gatesOf, asksOf}
 use Rattle.lowering.specs.Own.{shares}
 use Rattle.lowering.specs.Lower.{recipe}
 
@@ -53,6 +56,38 @@ Mapped f m m′ = (s : Net) → Turned f s m s m′
 -- the same of a step that also records constraints
 abbrev pub Counted : (Core → Core) → Net → List ℕ → ℕ → List ℕ → Net → List ℕ → ℕ → List ℕ → Type 0
 Counted f s c nc m s′ c′ nc′ m′ = (stop : ℕ) → coreAt s′ c′ nc′ m′ stop ≡ f (coreAt s c nc m stop)
+
+-- the state that the buffers and the progress say
+abbrev pub coreOf : List ℕ → List ℕ → List ℕ → Progress → Core
+coreOf g c m p = coreAt (netOf g (p .at)) c (p .constraints) m (p .stop)
+
+-- node k of a table without fault, over that state, with room for its gates and its constraints
+pub record Owns (S : Source) (o : List ℕ) (k : ℕ) (s : Core) : Type 0 where
+  pub stands : Stands S o (length (s .map)) k
+  pub room : Room (s .net .gates) (s .net .n + gatesOf S k)
+  pub cap : s .net .n + gatesOf S k < 4294967296
+  pub asks : conUsed (s .nc + asksOf S k) ≤ length (s .cons)
+
+-- and with the marks
+abbrev pub lowOf : List ℕ → List ℕ → List ℕ → List ℕ → Progress → Low
+lowOf g c m z p = record { core = coreOf g c m p; seen = z }
+
+-- a table without fault, over a state with room for e gates, for f constraints, and for the ceilings of all nodes not seen
+pub record Goes (S : Source) (o : List ℕ) (e f : ℕ) (s : Low) : Type 0 where
+  pub clear : tableFault (S .table) (S .addrs) (S .word) ≡ Clear
+  pub offsets : Offsets Bit (S .table) (listed S) (S .word) o
+  pub mapped : length (s .core .map) ≡ totalOf S
+  pub marked : length (s .seen) ≡ nodes (S .table) + 1
+  pub room : Room (s .core .net .gates) (s .core .net .n + e + left (gatesOf S) 0 (s .seen))
+  pub cap : s .core .net .n + e + left (gatesOf S) 0 (s .seen) < 4294967296
+  pub asks : conUsed (s .core .nc + f + left (asksOf S) 0 (s .seen)) ≤ length (s .core .cons)
+
+-- t comes of s by a visit of node k, and by entering node k, with any fuel that is enough
+abbrev pub Visits : Source → ℕ → Low → Low → Type 0
+Visits S k s t = (f : ℕ) → k < f → t ≡ visitTo f (recipe S) k s
+
+abbrev pub Enters : Source → ℕ → Low → Low → Type 0
+Enters S k s t = (f : ℕ) → k ≤ f → t ≡ enter (visitTo f (recipe S)) (recipe S) k s
 
 -- a node that is neither given nor shared, a choice, a division, a read or a write
 pub record Plain (d : Node) : Type 0 where
