@@ -4,7 +4,7 @@ use mathlib.Core.List.{List}
 use Prim.Native.Nat.{ℕ, zero, suc, _+_, _*_, _-_, _≤_, _<_}
 use native.Mathlib.Omega.{arith}
 use native.Mathlib.Nat.{mul-le-mul-right, mul-assoc}
-use lib.ListN.{length, getD, set, take, drop}
+use lib.ListN.{length, getD, set, take, drop, length-take, length-drop}
 use borrow.Author.Tests.{ne-eqb}
 use Rattle.loops.specs.Loop.{pick, iter, sum}
 use Rattle.loops.proofs.Loop.{iter-inv}
@@ -159,3 +159,7 @@ plain-path d v a b to g g′ word map map′ n n′ e h =
     let y : a + v - a ≡ v = omega arith in
     let z : b + v - b ≡ v = omega arith in
     ap {B = Word} (λ l. wordOf g′ n′ l) h ∙ ap {B = Word} (λ (x : Word). asIs (x .net) (putBits to (x .out) (d .width) map)) (rw (y, z) at e)
+
+-- a part of a list, from a place on
+pub part-long : (m : List ℕ) (a w : ℕ) → a + w ≤ length m → length (take (a + w - a) (drop a m)) ≡ w
+part-long m a w h = simp (length-take, length-drop) (omega arith)

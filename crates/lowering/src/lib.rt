@@ -1,5 +1,6 @@
 // The lowering of a table of nodes to gates.
 pub mod choose; // an ite with an unknown condition
+pub mod divide; // a division, and refusal 10's test
 pub mod input; // an input or an uninitialised state
 pub mod lower; // the entry point: refusals, then the visits from the bad nodes
 pub mod operand; // which operands are visited
