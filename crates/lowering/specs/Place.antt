@@ -40,7 +40,7 @@ plainAt d v a b to x =
     let y : Word = plainWord d v (take v (drop a (x .out))) (take v (drop b (x .out))) (x .net) in
     asIs (y .net) (putBits to (y .out) (d .width) (x .out))
 
--- the quotient or the remainder of the words from a and from b on, w wide
+-- the quotient or the remainder of the words from a and from b on, w wide: it goes to the places from `to` on
 unfoldable pub divideAt : Bool → ℕ → ℕ → ℕ → ℕ → ℕ → Checked → Checked
 divideAt quotient node w a b to x =
     let y : Checked = divideWords quotient w node (take w (drop a (x .out))) (take w (drop b (x .out))) (record { net = x .net; cons = x .cons; out = blank }) in

@@ -1,4 +1,3 @@
-use native.Mathlib.Omega.{arith}
 use Rattle.lowering.proofs.DivideFacts.{zero-unknown, zero-below, zero-known}
 use borrow.Author.Needs.{needs}
 use Rattle.lowering.proofs.divide.known_zero.Statement.{statement}
