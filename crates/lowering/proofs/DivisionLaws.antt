@@ -65,6 +65,16 @@ asks-enough : (v : ℕ) → conCount v ≡ divConstraints v
 unfolding divConstraints
 asks-enough v = refl
 
+-- a division has room for its gates and its constraints
+module _ (S : Source) (k : ℕ) (low : 1 ≤ k) (h : divides (nodeOf S k .kind) ≡ true) (word : 1 ≤ widthOf (S .table) k) where
+  pub gates-room : divCost (wideOf S k) ≤ gatesOf S k
+  gates-room =
+      let c : divCost (wideOf S k) ≡ divCost (nodeOf S k .width) = ap (λ (n : ℕ). divCost n) (word-wide S k word) in
+      omega (arith, gates-enough (nodeOf S k .width), gates-of S k low, top-divides (listed S) (S .word) (nodeOf S k) (widthOf (S .table) (nodeOf S k .a)) h)
+
+  pub asked-for : conCount (wideOf S k) ≡ asksOf S k
+  asked-for = ap (λ (n : ℕ). conCount n) (word-wide S k word) ∙ asks-enough (nodeOf S k .width) ∙ sym (asks-of S k low ∙ constraints-divide (nodeOf S k) h)
+
 -- what was constrained before is as it was
 same-before : (l t : List ℕ) (n : ℕ) → ((j : ℕ) → j < n → (conGate t j ≡ conGate l j) × (conValue t j ≡ conValue l j)) → (i : ℕ) → i < 2 * n → getD t i 0 ≡ getD l i 0
 unfolding conGate conValue
@@ -148,17 +158,11 @@ module _ (S : Source) (clear : tableFault (S .table) (S .addrs) (S .word) ≡ Cl
 
   grown : Grows (s .net) (made .book .net) (gatesOf S k)
   unfolding book
-  grown =
-      let c : divCost w ≡ divCost (nodeOf S k .width) = ap (λ (n : ℕ). divCost n) wide in
-      grows-weaken (s .net) (made .book .net) (divCost w) (gatesOf S k)
-      (omega (arith, gates-enough (nodeOf S k .width), gates-of S k (is .low), top-divides (listed S) (S .word) (nodeOf S k) (widthOf (S .table) (nodeOf S k .a)) h)) (law .grows)
-
-  asked-for : conCount w ≡ asksOf S k
-  asked-for = ap (λ (n : ℕ). conCount n) wide ∙ asks-enough (nodeOf S k .width) ∙ sym (asks-of S k (is .low) ∙ constraints-divide (nodeOf S k) h)
+  grown = grows-weaken (s .net) (made .book .net) (divCost w) (gatesOf S k) (gates-room S k (is .low) h (v .word)) (law .grows)
 
   count : made .book .cons .m ≡ s .nc + asksOf S k
   unfolding book
-  count = law .more .count ∙ ap (λ (n : ℕ). s .nc + n) asked-for
+  count = law .more .count ∙ ap (λ (n : ℕ). s .nc + n) (asked-for S k (is .low) h (v .word))
 
   -- the word's bits are new gates
   word-below : Below (made .book .net .n) word w

@@ -5,7 +5,7 @@ use mathlib.Core.Bool.{Bool, true, false, _&&_}
 use Prim.Native.Nat.{ℕ, zero, suc, _+_, _*_, _-_, _≤_, _<_}
 use native.Mathlib.Omega.{arith}
 use lib.Dec.{eqb}
-use lib.ListN.{length, getD}
+use lib.ListN.{length, getD, take, drop}
 use borrow.Author.Tests.{eq-eqb, ne-eqb, eqb-true, eqb-false}
 use Rattle.loops.specs.Loop.{pick, iter}
 use Rattle.loops.proofs.Loop.{by-pick, pick-true, pick-false}
@@ -74,6 +74,14 @@ module _ (S : Source) (k : ℕ) (f : ℕ → Word → Word) (F : ℕ → Core �
 -- a node's place is within the map
 pub place-within : (S : Source) (o : List ℕ) (long k x : ℕ) → Stands S o long k → 1 ≤ x → x ≤ k → offOf S x + wordsOf S x * wideOf S x ≤ long
 place-within S o long k x h some le = omega (arith, off-inside S x some (omega (arith, h .is .high)), bits-words S x some, h .mapped)
+
+-- and so is a word
+pub word-in : (S : Source) (o : List ℕ) (long k x : ℕ) → Stands S o long k → 1 ≤ x → x ≤ k → 1 ≤ widthOf (S .table) x → offOf S x + wideOf S x ≤ long
+word-in S o long k x h some le word = omega (arith, place-within S o long k x h some le, ap (λ (n : ℕ). n * wideOf S x) (word-words S x word))
+
+-- the bits of a word, as its first word
+pub part-first : (S : Source) (m : List ℕ) (x : ℕ) → take (wideOf S x) (drop (offOf S x) m) ≡ wordAt S m x 0
+part-first S m x = let z : offOf S x ≡ offOf S x + 0 * wideOf S x = omega arith in ap (λ (i : ℕ). take (wideOf S x) (drop i m)) z
 
 -- inputs
 pub record Inputs (g : List ℕ) (a : At) (long k : ℕ) (p : Place) : Type 0 where

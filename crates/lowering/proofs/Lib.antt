@@ -28,5 +28,6 @@ pub mod Demands
 pub mod Paths
 pub mod Facts
 pub mod WordFacts
+pub mod DivideFacts
 pub mod OwnFacts
 pub mod VisitFacts

@@ -1,6 +1,7 @@
 -- What the code's calls come to, path by path, over the definitions alone: a proof of the code cites each by its bare name in `search`.
 use mathlib.Core.Path.{_≡_, refl, ap, sym, _∙_}
 use mathlib.Core.List.{List}
+use mathlib.Core.Bool.{Bool}
 use Prim.Native.Nat.{ℕ, zero, suc, _+_, _*_, _-_, _≤_, _<_}
 use native.Mathlib.Omega.{arith}
 use native.Mathlib.Nat.{mul-le-mul-right, mul-assoc}
@@ -27,8 +28,10 @@ use Rattle.words.proofs.NumLaws.{blank-long}
 use Rattle.words.proofs.Sums.{sum-most}
 use Rattle.words.proofs.EachLaws.{each-ext}
 use Rattle.gates.proofs.FoldLaws.{not-cost as one-not}
+use Rattle.division.specs.Rows.{Checked, checkedOf}
+use Rattle.division.specs.Divide.{divideWords}
 use Rattle.lowering.specs.Own.{fresh, asIs, ofBit, ofChain, inputStep, plainWord}
-use Rattle.lowering.specs.Place.{placed, inputs, choices, shareAt, inFront, plainAt}
+use Rattle.lowering.specs.Place.{placed, inputs, choices, shareAt, inFront, plainAt, divideAt}
 
 -- word i of several lies among them
 pub word-within : (i words w : ℕ) → i < words → i * w + w ≤ words * w
@@ -159,3 +162,13 @@ plain-path d v a b to g g′ word map map′ n n′ e h =
     let y : a + v - a ≡ v = omega arith in
     let z : b + v - b ≡ v = omega arith in
     ap {B = Word} (λ l. wordOf g′ n′ l) h ∙ ap {B = Word} (λ (x : Word). asIs (x .net) (putBits to (x .out) (d .width) map)) (rw (y, z) at e)
+
+-- divisions
+pub divide-path : (quotient : Bool) (node w a b to : ℕ) (g g′ c c′ word map map′ : List ℕ) (n n′ : At) (m m′ : ℕ)
+    → checkedOf g′ n′ c′ m′ word ≡ divideWords quotient w node (take (a + w - a) (drop a map)) (take (b + w - b) (drop b map)) (checkedOf g n c m blank)
+    → map′ ≡ putBits to word w map → checkedOf g′ n′ c′ m′ map′ ≡ divideAt quotient node w a b to (checkedOf g n c m map)
+unfolding divideAt
+divide-path quotient node w a b to g g′ c c′ word map map′ n n′ m m′ e h =
+    let y : a + w - a ≡ w = omega arith in
+    let z : b + w - b ≡ w = omega arith in
+    ap {B = Checked} (λ l. checkedOf g′ n′ c′ m′ l) h ∙ ap {B = Checked} (λ (x : Checked). record { net = x .net; cons = x .cons; out = putBits to (x .out) w map }) (rw (y, z) at e)

@@ -33,7 +33,7 @@ use Rattle.lowering.specs.Asked.{Stands, Makes, Plain, rightOf, placeOf,
 use Rattle.lowering.proofs.Places.{word-words, word-wide, gates-of, sound-of}
 use Rattle.lowering.proofs.StepLaws.{wide-small}
 use Rattle.lowering.proofs.Paths.{plain-const, plain-not}
-use Rattle.lowering.proofs.Facts.{place-within, offset}
+use Rattle.lowering.proofs.Facts.{word-in, part-first, offset}
 
 -- one word of the whole state
 module _ (S : Source) (k : ℕ) (F : ℕ → Core → Word) (one : wordsOf S k ≡ 1) where
@@ -101,12 +101,8 @@ module _ (S : Source) (o g : List ℕ) (a : At) (long k : ℕ) (h : Makes S o g 
   kindOf : Plain (nodeOf S k) → Sort (nodeOf S k) (listed S) (S .word) (widthOf (S .table) (nodeOf S k .a)) (widthOf (S .table) (nodeOf S k .b))
   kindOf p = sort (nodeOf S k) (listed S) p (node .sort)
 
-  -- a word lies within the map
-  word-in : (x : ℕ) → 1 ≤ x → x ≤ k → 1 ≤ widthOf (S .table) x → offOf S x + wideOf S x ≤ long
-  word-in x some le word = omega (arith, place-within S o long k x (h .stands) some le, ap (λ (n : ℕ). n * wideOf S x) (word-words S x word))
-
   pub const-asks : (d : Node) → d ≡ nodeOf S k → Plain d → d .kind ≡ CONST → (p : Place) → p ≡ placeOf S k → (p .wide ≤ 64) × (p .off + p .wide ≤ long)
-  const-asks d same pl e p q = rw q (wide-small S (h .stands .clear) k, word-in k (h .stands .is .low) (omega arith) (go (kindOf (subst (λ (x : Node). Plain x) same pl))))
+  const-asks d same pl e p q = rw q (wide-small S (h .stands .clear) k, word-in S o long k k (h .stands) (h .stands .is .low) (omega arith) (go (kindOf (subst (λ (x : Node). Plain x) same pl))))
     where
       go : Sort (nodeOf S k) (listed S) (S .word) (widthOf (S .table) (nodeOf S k .a)) (widthOf (S .table) (nodeOf S k .b)) → 1 ≤ widthOf (S .table) k
       go (number f w) = w
@@ -193,23 +189,20 @@ module _ (S : Source) (o g : List ℕ) (a : At) (long k : ℕ) (h : Makes S o g 
           some = omega (arith, left-wide, t .of .word);
           small = wide-small S (h .stands .clear) (nodeOf S k .a);
           own = node .narrow;
-          left-within = word-in (nodeOf S k .a) (t .a-some) (omega (arith, node .operands .a)) (t .of .word);
+          left-within = word-in S o long k (nodeOf S k .a) (h .stands) (t .a-some) (omega (arith, node .operands .a)) (t .of .word);
           right-within =
-              omega (arith, word-in (rightOf (nodeOf S k)) (t .right-some) (omega (arith, t .right-less)) (omega (arith, t .right-wide, t .of .word)), right-same);
-          within = omega (arith, word-in k (h .stands .is .low) (omega arith) (t .of .own), word-wide S k (t .of .own));
+              omega (arith, word-in S o long k (rightOf (nodeOf S k)) (h .stands) (t .right-some) (omega (arith, t .right-less)) (omega (arith, t .right-wide, t .of .word)), right-same);
+          within = omega (arith, word-in S o long k k (h .stands) (h .stands .is .low) (omega arith) (t .of .own), word-wide S k (t .of .own));
         }
-
-    part-zero : (m : List ℕ) (x : ℕ) → take (wideOf S x) (drop (offOf S x) m) ≡ wordAt S m x 0
-    part-zero m x = let z : offOf S x ≡ offOf S x + 0 * wideOf S x = omega arith in ap (λ (i : ℕ). take (wideOf S x) (drop i m)) z
 
     left-path : (s : Net) (m : List ℕ)
         → plainWord (nodeOf S k) (wideOf S (nodeOf S k .a)) (take (wideOf S (nodeOf S k .a)) (drop (offOf S (nodeOf S k .a)) m)) (take (wideOf S (nodeOf S k .a)) (drop (offOf S (rightOf (nodeOf S k))) m)) s
         ≡ plainWord (nodeOf S k) (wideOf S (nodeOf S k .a)) (wordAt S m (nodeOf S k .a) 0) (take (wideOf S (nodeOf S k .a)) (drop (offOf S (rightOf (nodeOf S k))) m)) s
     left-path s m =
-        ap (λ (l : List ℕ). plainWord (nodeOf S k) (wideOf S (nodeOf S k .a)) l (take (wideOf S (nodeOf S k .a)) (drop (offOf S (rightOf (nodeOf S k))) m)) s) (part-zero m (nodeOf S k .a))
+        ap (λ (l : List ℕ). plainWord (nodeOf S k) (wideOf S (nodeOf S k .a)) l (take (wideOf S (nodeOf S k .a)) (drop (offOf S (rightOf (nodeOf S k))) m)) s) (part-first S m (nodeOf S k .a))
 
     right-part : (m : List ℕ) → take (wideOf S (nodeOf S k .a)) (drop (offOf S (rightOf (nodeOf S k))) m) ≡ wordAt S m (rightOf (nodeOf S k)) 0
-    right-part m = ap (λ (w : ℕ). take w (drop (offOf S (rightOf (nodeOf S k))) m)) (sym right-same) ∙ part-zero m (rightOf (nodeOf S k))
+    right-part m = ap (λ (w : ℕ). take w (drop (offOf S (rightOf (nodeOf S k))) m)) (sym right-same) ∙ part-first S m (rightOf (nodeOf S k))
 
     all-path : (s : Net) (m : List ℕ) (c : List ℕ) (nc stop : ℕ)
         → plainWord (nodeOf S k) (wideOf S (nodeOf S k .a)) (take (wideOf S (nodeOf S k .a)) (drop (offOf S (nodeOf S k .a)) m)) (take (wideOf S (nodeOf S k .a)) (drop (offOf S (rightOf (nodeOf S k))) m)) s

@@ -1,13 +1,17 @@
 -- A node's words, one after the other, to their places in the bit map: what the code does over places alone.
 use mathlib.Core.List.{List}
+use mathlib.Core.Bool.{Bool}
 use Prim.Native.Nat.{ℕ, _+_, _*_}
 use lib.ListN.{getD, set, take, drop}
 use Rattle.loops.specs.Loop.{iter}
 use Rattle.table.specs.declared.Node.{Node}
 use Rattle.gates.specs.Made.{MadeBit}
 use Rattle.words.specs.declared.each.Bitwise.the-variants as op
+use Rattle.words.specs.Num.{blank}
 use Rattle.words.specs.Each.{Word, eachBit, putBits}
 use Rattle.words.specs.Sub.{widened}
+use Rattle.division.specs.Rows.{Checked}
+use Rattle.division.specs.Divide.{divideWords}
 use Rattle.lowering.specs.Own.{asIs, fresh, inputStep, plainWord}
 
 -- word i, of w bits, as f makes it of the net and the map: it goes to its place among those from `to` on
@@ -35,3 +39,9 @@ unfoldable pub plainAt : Node → ℕ → ℕ → ℕ → ℕ → Word → Word
 plainAt d v a b to x =
     let y : Word = plainWord d v (take v (drop a (x .out))) (take v (drop b (x .out))) (x .net) in
     asIs (y .net) (putBits to (y .out) (d .width) (x .out))
+
+-- the quotient or the remainder of the words from a and from b on, w wide: it goes to the places from `to` on
+unfoldable pub divideAt : Bool → ℕ → ℕ → ℕ → ℕ → ℕ → Checked → Checked
+divideAt quotient node w a b to x =
+    let y : Checked = divideWords quotient w node (take w (drop a (x .out))) (take w (drop b (x .out))) (record { net = x .net; cons = x .cons; out = blank }) in
+    record { net = y .net; cons = y .cons; out = putBits to (y .out) w (x .out) }
