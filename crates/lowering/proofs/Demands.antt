@@ -5,8 +5,7 @@ use mathlib.Core.List.{List}
 use Prim.Native.Nat.{ℕ}
 use Rattle.visits.specs.Claims.{Small, Halted}
 use Rattle.lowering.specs.Source.{Source}
-use Rattle.lowering.specs.Lower.{recipe, start}
-use Rattle.lowering.proofs.SmallLaws.{Accepted, lowered}
+use Rattle.lowering.specs.Lower.{recipe, start, lowered, Accepted}
 use Rattle.lowering.proofs.SmallLaws as smalls
 use Rattle.lowering.proofs.Owed.{reads-owed, writes-owed, divides-owed, known-owed}
 

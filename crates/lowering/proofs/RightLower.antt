@@ -9,13 +9,12 @@ use Rattle.values.specs.Eval.{evalWords}
 use Rattle.visits.specs.Claims.{Lowered}
 use Rattle.visits.proofs.Values as visits
 use Rattle.lowering.specs.Source.{Source}
-use Rattle.lowering.specs.Lower.{recipe, start}
+use Rattle.lowering.specs.Lower.{recipe, start, lowered, Accepted}
 use Rattle.lowering.specs.Meaning.{meaning}
 use Rattle.lowering.proofs.ShapeLaws.{shape}
 use Rattle.lowering.proofs.Owed.{reads-owed, writes-owed, divides-owed, known-owed}
 use Rattle.lowering.proofs.OwnLaws.{own-law}
 use Rattle.lowering.proofs.StartLaws.{starts}
-use Rattle.lowering.proofs.SmallLaws.{Accepted, lowered}
 use Rattle.lowering.proofs.Meaning.{done-evaluated}
 use Rattle.lowering.proofs.RightOwn.{own-right}
 

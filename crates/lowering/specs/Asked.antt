@@ -14,7 +14,7 @@ use Rattle.table.specs.declared.Unit.the-variants.{Bit}
 use Rattle.table.specs.Sheet.{tableFault}
 use Rattle.table.specs.Size.{Offsets}
 use Rattle.netlist.specs.Net.{Net}
-use Rattle.netlist.specs.Record.{Room}
+use Rattle.netlist.specs.Record.{Room, records}
 use Rattle.gates.specs.declared.made.At.{At}
 use Rattle.gates.specs.Made.{netOf, Fits}
 use Rattle.division.specs.Constraint.{conUsed}
@@ -24,7 +24,7 @@ use Rattle.lowering.specs.declared.own.Progress.{Progress}
 use Rattle.lowering.specs.declared.place.Place.{Place}
 use Rattle.lowering.specs.Source.{Source, listed, wordsOf, wideOf, offOf, totalOf, gatesOf, asksOf}
 use Rattle.lowering.specs.Own.{shares}
-use Rattle.lowering.specs.Lower.{recipe}
+use Rattle.lowering.specs.Lower.{recipe, sums, conRecords}
 
 -- node k of a table without fault, its offsets worked out, over a map of `long` places
 pub record Stands (S : Source) (o : List ℕ) (long k : ℕ) : Type 0 where
@@ -81,6 +81,15 @@ pub record Goes (S : Source) (o : List ℕ) (e f : ℕ) (s : Low) : Type 0 where
   pub room : Room (s .core .net .gates) (s .core .net .n + e + left (gatesOf S) 0 (s .seen))
   pub cap : s .core .net .n + e + left (gatesOf S) 0 (s .seen) < 4294967296
   pub asks : conUsed (s .core .nc + f + left (asksOf S) 0 (s .seen)) ≤ length (s .core .cons)
+
+-- where a lowering begins: room for the sums, a place in the map for each bit and a mark for each node
+pub record Begins (S : Source) (o g c m z : List ℕ) : Type 0 where
+  pub clear : tableFault (S .table) (S .addrs) (S .word) ≡ Clear
+  pub offsets : Offsets Bit (S .table) (listed S) (S .word) o
+  pub gates : sums S .gates ≤ records g
+  pub constraints : sums S .constraints ≤ conRecords c
+  pub mapped : length m ≡ totalOf S
+  pub marked : length z ≡ nodes (S .table) + 1
 
 -- t comes of s by a visit of node k, and by entering node k, with any fuel that is enough
 abbrev pub Visits : Source → ℕ → Low → Low → Type 0

@@ -4,3 +4,4 @@ pub mod Place
 pub mod Lower
 pub mod Meaning
 pub mod Asked
+pub mod Promise

@@ -2,12 +2,13 @@
 use mathlib.Core.Path.{_≡_}
 use mathlib.Core.List.{List, _++_}
 use mathlib.Core.Bool.{Bool}
-use Prim.Native.Nat.{ℕ, _+_, _/_}
+use Prim.Native.Nat.{ℕ, _+_, _/_, _≤_}
 use lib.Dec.{eqb, ltb}
 use lib.ListN.{length, take, drop, replicate}
 use Rattle.loops.specs.Loop.{pick}
 use Rattle.table.specs.Node.{nodes, given}
 use Rattle.table.specs.declared.Sums.{Sums}
+use Rattle.table.specs.declared.Fault.the-variants.{Clear}
 use Rattle.table.specs.Sheet as sheet
 use Rattle.table.specs.Sheet.{tableFault, isClear}
 use Rattle.table.specs.Ceiling.{sumsOf}
@@ -55,16 +56,15 @@ node BitRoom = 0
 node ConstraintRoom = 0
 node (ZeroDivisor k) = k
 
--- what is answered, and what the three lent buffers then hold; `seen` marks the nodes reached
+-- what is answered, and what the three lent buffers then hold
 pub record Run : Type 0 where
   pub answer : Answer
   pub gates : List ℕ
   pub cons : List ℕ
   pub map : List ℕ
-  pub seen : List ℕ
 
-abbrev pub run : Answer → List ℕ → List ℕ → List ℕ → List ℕ → Run
-run a g c m z = record { answer = a; gates = g; cons = c; map = m; seen = z }
+abbrev pub run : Answer → List ℕ → List ℕ → List ℕ → Run
+run a g c m = record { answer = a; gates = g; cons = c; map = m }
 
 -- unreached nodes' places hold this
 abbrev pub UNREACHED : ℕ
@@ -85,6 +85,10 @@ start S g c =
       seen = replicate (nodes (S .table) + 1) 0;
     }
 
+-- what the visits make of it
+abbrev pub lowered : Source → List ℕ → List ℕ → Low
+lowered S g c = lowerTo (recipe S) (start S g c)
+
 -- all zero from end to end
 abbrev pub zeros : List ℕ → List ℕ
 zeros l = replicate (length l) 0
@@ -93,8 +97,8 @@ zeros l = replicate (length l) 0
 unfoldable pub ended : Source → List ℕ → List ℕ → List ℕ → Low → Run
 ended S g c m t =
     pick (eqb (t .core .stop) 0)
-    (run (Done (t .core .net .n) (t .core .nc)) (t .core .net .gates) (t .core .cons) (t .core .map ++ drop (totalOf S) m) (t .seen))
-    (run (ZeroDivisor (t .core .stop)) (zeros g) (zeros c) (zeros m) (t .seen))
+    (run (Done (t .core .net .n) (t .core .nc)) (t .core .net .gates) (t .core .cons) (t .core .map ++ drop (totalOf S) m))
+    (run (ZeroDivisor (t .core .stop)) (zeros g) (zeros c) (zeros m))
 
 -- whole constraints lent
 abbrev pub conRecords : List ℕ → ℕ
@@ -105,15 +109,31 @@ abbrev pub sums : Source → Sums
 sums S = sumsOf (S .table) (listed S) (S .word)
 
 -- 7 GATE ROOM, 8 BIT ROOM, 9 CONSTRAINT ROOM: whole records lent below the sum; then the lowering
-unfoldable pub lowerClear : Source → List ℕ → List ℕ → List ℕ → List ℕ → Run
-lowerClear S g c m z =
-    pick (ltb (records g) (sums S .gates)) (run GateRoom g c m z)
-    (pick (ltb (length m) (sums S .map)) (run BitRoom g c m z)
-    (pick (ltb (conRecords c) (sums S .constraints)) (run ConstraintRoom g c m z)
-    (ended S g c m (lowerTo (recipe S) (start S g c)))))
+unfoldable pub lowerClear : Source → List ℕ → List ℕ → List ℕ → Run
+lowerClear S g c m =
+    pick (ltb (records g) (sums S .gates)) (run GateRoom g c m)
+    (pick (ltb (length m) (sums S .map)) (run BitRoom g c m)
+    (pick (ltb (conRecords c) (sums S .constraints)) (run ConstraintRoom g c m)
+    (ended S g c m (lowered S g c))))
 
 -- 1 to 6 first; every refusal but 10 changes nothing
-unfoldable pub lowerAll : Source → List ℕ → List ℕ → List ℕ → List ℕ → Run
-lowerAll S g c m z =
-    pick (isClear (tableFault (S .table) (S .addrs) (S .word))) (lowerClear S g c m z)
-    (run (Table (tableFault (S .table) (S .addrs) (S .word))) g c m z)
+unfoldable pub lowerAll : Source → List ℕ → List ℕ → List ℕ → Run
+lowerAll S g c m =
+    pick (isClear (tableFault (S .table) (S .addrs) (S .word))) (lowerClear S g c m)
+    (run (Table (tableFault (S .table) (S .addrs) (S .word))) g c m)
+
+-- the lent marks after an answer: where nodes were visited, 1 at each that was reached
+unfoldable pub marked : Source → List ℕ → List ℕ → List ℕ → Answer → List ℕ
+marked S g c z (Done n k) = lowered S g c .seen ++ drop (nodes (S .table) + 1) z
+marked S g c z (Table f) = z
+marked S g c z GateRoom = z
+marked S g c z BitRoom = z
+marked S g c z ConstraintRoom = z
+marked S g c z (ZeroDivisor k) = lowered S g c .seen ++ drop (nodes (S .table) + 1) z
+
+-- a table is accepted, and the lent buffers have room for the sums
+pub record Accepted (S : Source) (g c m : List ℕ) : Type 0 where
+  pub clear : tableFault (S .table) (S .addrs) (S .word) ≡ Clear
+  pub gates : sums S .gates ≤ records g
+  pub map : sums S .map ≤ length m
+  pub constraints : sums S .constraints ≤ conRecords c

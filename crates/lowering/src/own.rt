@@ -21,13 +21,12 @@ use gates::made::At;
 use table::Node;
 use table::field::is_given;
 use table::kind::BAD;
-use table::kind::DIVU;
 use table::kind::EXT;
 use table::kind::ITE;
 use table::kind::READ;
-use table::kind::REM;
 use table::kind::STATE;
 use table::kind::WRITE;
+use table::kind::divides;
 
 // How far a lowering has come: where the next gate goes, how many constraints there are, and 0 or the node at which it stopped.
 pub struct Progress {
@@ -41,12 +40,6 @@ fn shares(node: Node) -> bool
     ensures { λ r. ⌜ r ≡ own.shares node ⌝ }
 {
     (node.kind == STATE) | (node.kind == BAD) | (node.kind == EXT)
-}
-
-fn divides(node: Node) -> bool
-    ensures { λ r. ⌜ r ≡ kinds.divides (node .kind) ⌝ }
-{
-    (node.kind == DIVU) | (node.kind == REM)
 }
 
 // Every kind but a division: no constraint is recorded.
@@ -111,7 +104,7 @@ pub fn own_step(
             stop: k,
         };
     }
-    if divides(node) {
+    if divides(node.kind) {
         let c = divide_node(
             table,
             addrs,
