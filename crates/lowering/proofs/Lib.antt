@@ -27,3 +27,4 @@ pub mod Demands
 pub mod Paths
 pub mod Facts
 pub mod WordFacts
+pub mod MemoryFacts

@@ -102,7 +102,7 @@ module _ (S : Source) (o g : List ℕ) (a : At) (long k : ℕ) (h : Makes S o g 
   kindOf p = sort (nodeOf S k) (listed S) p (node .sort)
 
   -- a word lies within the map
-  word-in : (x : ℕ) → 1 ≤ x → x ≤ k → 1 ≤ widthOf (S .table) x → offOf S x + wideOf S x ≤ long
+  pub word-in : (x : ℕ) → 1 ≤ x → x ≤ k → 1 ≤ widthOf (S .table) x → offOf S x + wideOf S x ≤ long
   word-in x some le word = omega (arith, place-within S o long k x (h .stands) some le, ap (λ (n : ℕ). n * wideOf S x) (word-words S x word))
 
   pub const-asks : (d : Node) → d ≡ nodeOf S k → Plain d → d .kind ≡ CONST → (p : Place) → p ≡ placeOf S k → (p .wide ≤ 64) × (p .off + p .wide ≤ long)

@@ -1,13 +1,14 @@
 -- A node's words, one after the other, to their places in the bit map: what the code does over places alone.
 use mathlib.Core.List.{List}
 use Prim.Native.Nat.{ℕ, _+_, _*_}
-use lib.ListN.{getD, set, take, drop}
+use lib.ListN.{getD, set, length, take, drop}
 use Rattle.loops.specs.Loop.{iter}
 use Rattle.table.specs.declared.Node.{Node}
 use Rattle.gates.specs.Made.{MadeBit}
 use Rattle.words.specs.declared.each.Bitwise.the-variants as op
 use Rattle.words.specs.Each.{Word, eachBit, putBits}
 use Rattle.words.specs.Sub.{widened}
+use Rattle.memory.specs.Read.{readWords}
 use Rattle.lowering.specs.Own.{asIs, fresh, inputStep, plainWord}
 
 -- word i, of w bits, as f makes it of the net and the map: it goes to its place among those from `to` on
@@ -35,3 +36,7 @@ unfoldable pub plainAt : Node → ℕ → ℕ → ℕ → ℕ → Word → Word
 plainAt d v a b to x =
     let y : Word = plainWord d v (take v (drop a (x .out))) (take v (drop b (x .out))) (x .net) in
     asIs (y .net) (putBits to (y .out) (d .width) (x .out))
+
+-- what a memory has at an address: the memory's bits stand from mem on, the address's from adr on
+unfoldable pub reading : List ℕ → ℕ → ℕ → ℕ → ℕ → Word → Word
+reading addrs mem adr w i x = readWords (length addrs) w addrs (take (length addrs * w) (drop mem (x .out))) (take w (drop adr (x .out))) (fresh (x .net))
