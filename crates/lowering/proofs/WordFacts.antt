@@ -35,6 +35,10 @@ use Rattle.lowering.proofs.StepLaws.{wide-small}
 use Rattle.lowering.proofs.Paths.{plain-const, plain-not}
 use Rattle.lowering.proofs.Facts.{place-within, offset}
 
+-- word 0 of a node
+pub part-zero : (S : Source) (m : List ℕ) (x : ℕ) → take (wideOf S x) (drop (offOf S x) m) ≡ wordAt S m x 0
+part-zero S m x = let z : offOf S x ≡ offOf S x + 0 * wideOf S x = omega arith in ap (λ (i : ℕ). take (wideOf S x) (drop i m)) z
+
 -- one word of the whole state
 module _ (S : Source) (k : ℕ) (F : ℕ → Core → Word) (one : wordsOf S k ≡ 1) where
   one-turn : (s : Net) (m : List ℕ) (s′ : Net) (out m′ : List ℕ) → ((c : List ℕ) (nc stop : ℕ) → asIs s′ out ≡ F 0 (coreAt s c nc m stop)) → m′ ≡ putBits (offOf S k) out (wideOf S k) m
@@ -199,17 +203,14 @@ module _ (S : Source) (o g : List ℕ) (a : At) (long k : ℕ) (h : Makes S o g 
           within = omega (arith, word-in k (h .stands .is .low) (omega arith) (t .of .own), word-wide S k (t .of .own));
         }
 
-    part-zero : (m : List ℕ) (x : ℕ) → take (wideOf S x) (drop (offOf S x) m) ≡ wordAt S m x 0
-    part-zero m x = let z : offOf S x ≡ offOf S x + 0 * wideOf S x = omega arith in ap (λ (i : ℕ). take (wideOf S x) (drop i m)) z
-
     left-path : (s : Net) (m : List ℕ)
         → plainWord (nodeOf S k) (wideOf S (nodeOf S k .a)) (take (wideOf S (nodeOf S k .a)) (drop (offOf S (nodeOf S k .a)) m)) (take (wideOf S (nodeOf S k .a)) (drop (offOf S (rightOf (nodeOf S k))) m)) s
         ≡ plainWord (nodeOf S k) (wideOf S (nodeOf S k .a)) (wordAt S m (nodeOf S k .a) 0) (take (wideOf S (nodeOf S k .a)) (drop (offOf S (rightOf (nodeOf S k))) m)) s
     left-path s m =
-        ap (λ (l : List ℕ). plainWord (nodeOf S k) (wideOf S (nodeOf S k .a)) l (take (wideOf S (nodeOf S k .a)) (drop (offOf S (rightOf (nodeOf S k))) m)) s) (part-zero m (nodeOf S k .a))
+        ap (λ (l : List ℕ). plainWord (nodeOf S k) (wideOf S (nodeOf S k .a)) l (take (wideOf S (nodeOf S k .a)) (drop (offOf S (rightOf (nodeOf S k))) m)) s) (part-zero S m (nodeOf S k .a))
 
     right-part : (m : List ℕ) → take (wideOf S (nodeOf S k .a)) (drop (offOf S (rightOf (nodeOf S k))) m) ≡ wordAt S m (rightOf (nodeOf S k)) 0
-    right-part m = ap (λ (w : ℕ). take w (drop (offOf S (rightOf (nodeOf S k))) m)) (sym right-same) ∙ part-zero m (rightOf (nodeOf S k))
+    right-part m = ap (λ (w : ℕ). take w (drop (offOf S (rightOf (nodeOf S k))) m)) (sym right-same) ∙ part-zero S m (rightOf (nodeOf S k))
 
     all-path : (s : Net) (m : List ℕ) (c : List ℕ) (nc stop : ℕ)
         → plainWord (nodeOf S k) (wideOf S (nodeOf S k .a)) (take (wideOf S (nodeOf S k .a)) (drop (offOf S (nodeOf S k .a)) m)) (take (wideOf S (nodeOf S k .a)) (drop (offOf S (rightOf (nodeOf S k))) m)) s

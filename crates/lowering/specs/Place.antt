@@ -9,6 +9,7 @@ use Rattle.words.specs.declared.each.Bitwise.the-variants as op
 use Rattle.words.specs.Each.{Word, eachBit, putBits}
 use Rattle.words.specs.Sub.{widened}
 use Rattle.memory.specs.Read.{readWords}
+use Rattle.memory.specs.Write.{writeWords}
 use Rattle.lowering.specs.Own.{asIs, fresh, inputStep, plainWord}
 
 -- word i, of w bits, as f makes it of the net and the map: it goes to its place among those from `to` on
@@ -40,3 +41,10 @@ plainAt d v a b to x =
 -- what a memory has at an address: the memory's bits stand from mem on, the address's from adr on
 unfoldable pub reading : List ℕ → ℕ → ℕ → ℕ → ℕ → Word → Word
 reading addrs mem adr w i x = readWords (length addrs) w addrs (take (length addrs * w) (drop mem (x .out))) (take w (drop adr (x .out))) (fresh (x .net))
+
+-- a memory with a word written at an address: the old memory's bits stand from `old` on, and are shared by those from `to` on; address and value from adr and from val on
+unfoldable pub writeAt : List ℕ → ℕ → ℕ → ℕ → ℕ → ℕ → Word → Word
+writeAt addrs old adr val to w x =
+    let m : List ℕ = iter (length addrs) (shareAt old w to w) (x .out) in
+    let y : Word = writeWords (length addrs) w addrs (take w (drop adr (x .out))) (take w (drop val (x .out))) (asIs (x .net) (take (length addrs * w) (drop to m))) in
+    asIs (y .net) (putBits to (y .out) (length addrs * w) m)

@@ -7,3 +7,4 @@ pub mod place; // where a node's bits stand
 pub mod plain; // the words that are made of two words
 pub mod read; // a read of a memory
 pub mod share; // what shares its operand's bits
+pub mod write; // a write to a memory
