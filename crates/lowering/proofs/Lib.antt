@@ -28,6 +28,7 @@ pub mod Demands
 pub mod Paths
 pub mod Facts
 pub mod WordFacts
+pub mod MemoryFacts
 pub mod DivideFacts
 pub mod OwnFacts
 pub mod VisitFacts

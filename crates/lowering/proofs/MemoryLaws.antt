@@ -46,6 +46,16 @@ WritesOwed S = (adr val mem : List ℕ) (s : Net) → listed S * S .word ≤ len
 pub memory-bits : (S : Source) (x : ℕ) → 1 ≤ x → widthOf (S .table) x ≡ 0 → bitsOf S x ≡ listed S * S .word
 memory-bits S x some v = bits-words S x some ∙ rw (memory-words S x v, memory-wide S x v)
 
+-- the ceilings of a read and of a write
+module _ (S : Source) (k : ℕ) (low : 1 ≤ k) where
+  pub read-gates : nodeOf S k .kind ≡ READ → gatesOf S k ≡ listed S * (4 * S .word - 1)
+  unfolding memoryGates
+  read-gates e = gates-of S k low ∙ top-read (listed S) (S .word) (nodeOf S k) (widthOf (S .table) (nodeOf S k .a)) e
+
+  pub write-gates : nodeOf S k .kind ≡ WRITE → gatesOf S k ≡ listed S * (5 * S .word - 1)
+  unfolding memoryGates
+  write-gates e = gates-of S k low ∙ top-write (listed S) (S .word) (nodeOf S k) (widthOf (S .table) (nodeOf S k .a)) e
+
 module _ (S : Source) (clear : tableFault (S .table) (S .addrs) (S .word) ≡ Clear) (k : ℕ) (is : Is (recipe S) k) (s : Core)
     (mapped : length (s .map) ≡ totalOf S) (run : s .stop ≡ 0) (goes : blockedOf S (s .map) k ≡ false) where
   abbrev A : ℕ
@@ -64,15 +74,11 @@ module _ (S : Source) (clear : tableFault (S .table) (S .addrs) (S .word) ≡ Cl
     some-a : 1 ≤ A
     some-a = node S clear k is s mapped run goes .operands .a-used (rw e)
 
-    read-gates : gatesOf S k ≡ listed S * (4 * S .word - 1)
-    unfolding memoryGates
-    read-gates = gates-of S k (is .low) ∙ top-read (listed S) (S .word) (nodeOf S k) (widthOf (S .table) A) e
-
     read-word : (i : ℕ) (x : Core) → Till (offOf S k) (s .map) (x .map) → WordOwes S k s x (gatesOf S k) (readWord S k i x)
     unfolding readWord
     read-word i x till =
         made-owes {s = s} {In = λ b. Below b (allAt S (x .map) A) (listed S * S .word) × Below b (wordAt S (x .map) B 0) (S .word)}
-        (made-as (sym v ∙ sym (word-wide S k (omega (arith, big)))) (omega (arith, read-gates))
+        (made-as (sym v ∙ sym (word-wide S k (omega (arith, big)))) (omega (arith, read-gates S k (is .low) e))
         (read-made (x .net) (listed S) (S .word) (S .addrs) (allAt S (x .map) A) (wordAt S (x .map) B 0) (owed (allAt S (x .map) A) (wordAt S (x .map) B 0) (x .net))))
         (λ b o. (
           λ j l. all-below S A k b (s .map) (x .map) some-a (node S clear k is s mapped run goes .operands .a) till (reads-a S k s b o some-a) j (omega (arith, memory-bits S A some-a va)),
@@ -126,13 +132,9 @@ module _ (S : Source) (clear : tableFault (S .table) (S .addrs) (S .word) ≡ Cl
     unfolding written
     law = owed adr val mem (shared .net) (omega (arith, mem-long, bits))
 
-    write-gates : gatesOf S k ≡ listed S * (5 * S .word - 1)
-    unfolding memoryGates
-    write-gates = gates-of S k (is .low) ∙ top-write (listed S) (S .word) (nodeOf S k) (widthOf (S .table) A) e
-
     grown : Grows (s .net) (written .net) (gatesOf S k)
     grown =
-        grows-weaken (s .net) (written .net) (wordsOf S k * 0 + listed S * (5 * S .word - 1)) (gatesOf S k) (omega (arith, write-gates))
+        grows-weaken (s .net) (written .net) (wordsOf S k * 0 + listed S * (5 * S .word - 1)) (gatesOf S k) (omega (arith, write-gates S k (is .low) e))
         (grows-trans (s .net) (shared .net) (written .net) (wordsOf S k * 0) (listed S * (5 * S .word - 1)) (made .grows) (law .ext .grows))
 
     put : Put (offOf S k) (written .out) (shared .map) (bitsOf S k) (putBits (offOf S k) (written .out) (bitsOf S k) (shared .map))

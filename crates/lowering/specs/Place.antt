@@ -2,7 +2,7 @@
 use mathlib.Core.List.{List}
 use mathlib.Core.Bool.{Bool}
 use Prim.Native.Nat.{ℕ, _+_, _*_}
-use lib.ListN.{getD, set, take, drop}
+use lib.ListN.{getD, set, length, take, drop}
 use Rattle.loops.specs.Loop.{iter}
 use Rattle.table.specs.declared.Node.{Node}
 use Rattle.gates.specs.Made.{MadeBit}
@@ -12,6 +12,8 @@ use Rattle.words.specs.Each.{Word, eachBit, putBits}
 use Rattle.words.specs.Sub.{widened}
 use Rattle.division.specs.Rows.{Checked}
 use Rattle.division.specs.Divide.{divideWords}
+use Rattle.memory.specs.Read.{readWords}
+use Rattle.memory.specs.Write.{writeWords}
 use Rattle.lowering.specs.Own.{asIs, fresh, inputStep, plainWord}
 
 -- word i, of w bits, as f makes it of the net and the map: it goes to its place among those from `to` on
@@ -45,3 +47,14 @@ unfoldable pub divideAt : Bool → ℕ → ℕ → ℕ → ℕ → ℕ → Check
 divideAt quotient node w a b to x =
     let y : Checked = divideWords quotient w node (take w (drop a (x .out))) (take w (drop b (x .out))) (record { net = x .net; cons = x .cons; out = blank }) in
     record { net = y .net; cons = y .cons; out = putBits to (y .out) w (x .out) }
+
+-- what a memory has at an address: the memory's bits stand from mem on, the address's from adr on
+unfoldable pub reading : List ℕ → ℕ → ℕ → ℕ → ℕ → Word → Word
+reading addrs mem adr w i x = readWords (length addrs) w addrs (take (length addrs * w) (drop mem (x .out))) (take w (drop adr (x .out))) (fresh (x .net))
+
+-- a memory with a word written at an address: the old memory's bits stand from `old` on, and are shared by those from `to` on; address and value from adr and from val on
+unfoldable pub writeAt : List ℕ → ℕ → ℕ → ℕ → ℕ → ℕ → Word → Word
+writeAt addrs old adr val to w x =
+    let m : List ℕ = iter (length addrs) (shareAt old w to w) (x .out) in
+    let y : Word = writeWords (length addrs) w addrs (take w (drop adr (x .out))) (take w (drop val (x .out))) (asIs (x .net) (take (length addrs * w) (drop to m))) in
+    asIs (y .net) (putBits to (y .out) (length addrs * w) m)
