@@ -1,0 +1,57 @@
+use Rattle.lowering.proofs.fill.fill.Statement.{statement}
+use Rattle.lowering.proofs.fill.fill.Tie as tie
+use Rattle.lowering.proofs.fill.fill.Reads as reads
+use Rattle.lowering.proofs.fill.fill.Lts as lts
+
+abbrev Inv-loop : tie.InvT-loop
+Inv-loop buffer₀ value i₀ buffer i = ?
+
+abbrev μ-loop : tie.MeasureT-loop
+μ-loop buffer₀ value i₀ buffer i = ?
+
+-- src/fill.rt:9:5
+loop-holds : tie.Need-loop-holds Inv-loop μ-loop
+loop-holds c = ?
+
+-- src/fill.rt:10:9
+mul-buffer : tie.Need-mul-buffer Inv-loop μ-loop
+mul-buffer c = ?
+
+-- src/fill.rt:10:9
+slice-write-buffer : tie.Need-slice-write-buffer Inv-loop μ-loop
+slice-write-buffer c = ?
+
+-- src/fill.rt:11:9
+add-i : tie.Need-add-i Inv-loop μ-loop
+add-i c = ?
+
+-- src/fill.rt:9:5
+loop-less : tie.Need-loop-less Inv-loop μ-loop
+loop-less c = ?
+
+-- src/fill.rt:9:5
+loop-again : tie.Need-loop-again Inv-loop μ-loop
+loop-again c = ?
+
+-- src/fill.rt:5:1
+same-length : tie.Need-same-length Inv-loop μ-loop
+same-length c = ?
+
+-- src/fill.rt:5:1
+returns : tie.Need-returns Inv-loop μ-loop
+returns c = ?
+
+pub fill-spec : {M : Type 1} → statement M
+fill-spec =
+    tie.close
+    (tie.spec
+    Inv-loop
+    μ-loop
+    loop-holds
+    mul-buffer
+    slice-write-buffer
+    add-i
+    loop-less
+    loop-again
+    same-length
+    returns)
