@@ -112,14 +112,14 @@ fn lower_clear(
 {
     let sums = table::ceiling::sums(table, addrs, word);
     let records = record::count(gates) as u64;
+    let places = map.len() as u64;
+    let pairs = (constraints.len() / 2) as u64;
     if records < sums.gates {
         return Answer::GateRoom;
     }
-    let places = map.len() as u64;
     if places < sums.map {
         return Answer::BitRoom;
     }
-    let pairs = (constraints.len() / 2) as u64;
     if pairs < sums.constraints {
         return Answer::ConstraintRoom;
     }

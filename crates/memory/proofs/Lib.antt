@@ -2,4 +2,3 @@ pub mod AddressLaws
 pub mod ReadLaws
 pub mod WriteLaws
 pub mod Paths
-pub mod Small

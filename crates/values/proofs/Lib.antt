@@ -4,4 +4,3 @@ pub mod Seen
 pub mod Local
 pub mod Range
 pub mod Unique
-pub mod Small

@@ -17,19 +17,19 @@ sums-requires c κs = search needs
 count-requires : tie.Need-count-requires
 count-requires c κs = search needs
 
--- src/lower.rt:116:9
+-- src/lower.rt:118:9
 same-length : tie.Need-same-length
 same-length c = search needs
 
--- src/lower.rt:116:9
+-- src/lower.rt:118:9
 returns : tie.Need-returns
 returns c = no-gate-room (source (c .before .before .before .before .before .before .before .before .before .before .before .before .args .table .now) (c .before .before .before .before .before .before .before .before .before .before .before .before .args .addrs .now) (c .before .before .before .before .before .before .before .before .before .before .before .before .args .word)) (c .before .before .before .before .before .before .before .before .before .before .before .before .args .gates .now) (c .before .before .before .before .before .before .before .before .before .before .before .before .args .constraints .now) (c .before .before .before .before .before .before .before .before .before .before .before .before .args .map .now) (c .before .before .before .before .before .before .before .before .before .before .before .before .args .marks .now) _ (c .before .before .before .before .sums .ensures) _ (c .before .before .count .ensures) (c .if1 .taken)
 
--- src/lower.rt:120:9
+-- src/lower.rt:121:9
 same-length-2 : tie.Need-same-length-2
 same-length-2 c = search needs
 
--- src/lower.rt:120:9
+-- src/lower.rt:121:9
 returns-2 : tie.Need-returns-2
 returns-2 c = no-bit-room (source (c .before .before .before .before .before .before .before .before .before .before .before .before .before .before .args .table .now) (c .before .before .before .before .before .before .before .before .before .before .before .before .before .before .args .addrs .now) (c .before .before .before .before .before .before .before .before .before .before .before .before .before .before .args .word)) (c .before .before .before .before .before .before .before .before .before .before .before .before .before .before .args .gates .now) (c .before .before .before .before .before .before .before .before .before .before .before .before .before .before .args .constraints .now) (c .before .before .before .before .before .before .before .before .before .before .before .before .before .before .args .map .now) (c .before .before .before .before .before .before .before .before .before .before .before .before .before .before .args .marks .now) _ (c .before .before .before .before .before .before .sums .ensures) _ (c .before .before .before .before .count .ensures) (c .before .before .if1 .left) (c .if2 .taken)
 
