@@ -4,10 +4,11 @@ use mathlib.Core.Path.{_≡_}
 use mathlib.Core.List.{List}
 use Prim.Native.Nat.{ℕ}
 use Rattle.visits.specs.Claims.{Small, Halted}
-use Rattle.lowering.specs.Source.{Source}
-use Rattle.lowering.specs.Lower.{recipe, start, lowered, Accepted}
+use Rattle.nodes.specs.Source.{Source}
+use Rattle.nodes.specs.Recipe.{recipe}
+use Rattle.lowering.specs.Lower.{start, lowered, Accepted}
 use Rattle.lowering.proofs.SmallLaws as smalls
-use Rattle.lowering.proofs.Owed.{reads-owed, writes-owed, divides-owed, known-owed}
+use Rattle.nodes.proofs.Owed.{reads-owed, writes-owed, divides-owed, known-owed}
 
 module _ (S : Source) (g c m : List ℕ) (a : Accepted S g c m) where
   pub small : lowered S g c .core .stop ≡ 0 → Small (recipe S) (start S g c) (lowered S g c)

@@ -22,10 +22,10 @@ use Rattle.table.proofs.size.Laws as size
 use Rattle.netlist.specs.Record.{records}
 use Rattle.visits.specs.Flow.{Low}
 use Rattle.lowering.specs.declared.lower.Answer.the-variants.{Done, Table, GateRoom, BitRoom, ConstraintRoom, ZeroDivisor}
-use Rattle.lowering.specs.declared.own.Progress.{Progress}
-use Rattle.lowering.specs.Source.{Source, listed, totalOf}
+use Rattle.nodes.specs.declared.own.Progress.{Progress}
+use Rattle.nodes.specs.Source.{Source, listed, totalOf}
 use Rattle.lowering.specs.Lower.{Run, run, sums, conRecords, zeros, lowered, ended, lowerClear, lowerAll, marked, Accepted}
-use Rattle.lowering.specs.Asked.{Begins, lowOf}
+use Rattle.lowering.specs.Visit.{Begins, lowOf}
 
 pub map-sum : (S : Source) → sums S .map ≡ totalOf S
 unfolding sumsOf

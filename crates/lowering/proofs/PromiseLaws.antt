@@ -24,18 +24,19 @@ use Rattle.visits.proofs.Later.{Sound, sound-later, visit-later}
 use Rattle.visits.proofs.Roots.{start-sound}
 use Rattle.lowering.specs.declared.lower.Answer.{Answer}
 use Rattle.lowering.specs.declared.lower.Answer.the-variants.{Done, Table, GateRoom, BitRoom, ConstraintRoom, ZeroDivisor}
-use Rattle.lowering.specs.Source.{Source, totalOf, gatesOf}
-use Rattle.lowering.specs.Own.{ownStep}
-use Rattle.lowering.specs.Lower.{recipe, Run, run, start, lowered, sums, conRecords, ended, lowerClear, lowerAll, Accepted, number}
-use Rattle.lowering.specs.Meaning.{meaning}
-use Rattle.lowering.specs.Asked.{coreAt}
+use Rattle.nodes.specs.Source.{Source, totalOf, gatesOf}
+use Rattle.nodes.specs.Own.{ownStep}
+use Rattle.nodes.specs.Recipe.{recipe}
+use Rattle.lowering.specs.Lower.{Run, run, start, lowered, sums, conRecords, ended, lowerClear, lowerAll, Accepted, number}
+use Rattle.nodes.specs.Meaning.{meaning}
+use Rattle.nodes.specs.Asked.{coreAt}
 use Rattle.lowering.specs.Promise.{said, Right, Bounded, Promise}
-use Rattle.lowering.proofs.ShapeLaws.{shape}
+use Rattle.nodes.proofs.ShapeLaws.{shape}
 use Rattle.lowering.proofs.StartLaws.{starts}
 use Rattle.lowering.proofs.SmallLaws.{done, refused}
 use Rattle.lowering.proofs.Demands as demands
 use Rattle.lowering.proofs.RightLower as demand2
-use Rattle.lowering.proofs.WordFacts.{clash}
+use Rattle.nodes.proofs.WordFacts.{clash}
 use Rattle.lowering.proofs.VisitFacts.{own-steps}
 
 -- the parts of an answer

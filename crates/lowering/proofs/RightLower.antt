@@ -8,15 +8,16 @@ use Rattle.values.specs.declared.Answer.the-variants.{Done}
 use Rattle.values.specs.Eval.{evalWords}
 use Rattle.visits.specs.Claims.{Lowered}
 use Rattle.visits.proofs.Values as visits
-use Rattle.lowering.specs.Source.{Source}
-use Rattle.lowering.specs.Lower.{recipe, start, lowered, Accepted}
-use Rattle.lowering.specs.Meaning.{meaning}
-use Rattle.lowering.proofs.ShapeLaws.{shape}
-use Rattle.lowering.proofs.Owed.{reads-owed, writes-owed, divides-owed, known-owed}
-use Rattle.lowering.proofs.OwnLaws.{own-law}
+use Rattle.nodes.specs.Source.{Source}
+use Rattle.nodes.specs.Recipe.{recipe}
+use Rattle.lowering.specs.Lower.{start, lowered, Accepted}
+use Rattle.nodes.specs.Meaning.{meaning}
+use Rattle.nodes.proofs.ShapeLaws.{shape}
+use Rattle.nodes.proofs.Owed.{reads-owed, writes-owed, divides-owed, known-owed}
+use Rattle.nodes.proofs.OwnLaws.{own-law}
 use Rattle.lowering.proofs.StartLaws.{starts}
-use Rattle.lowering.proofs.Meaning.{done-evaluated}
-use Rattle.lowering.proofs.RightOwn.{own-right}
+use Rattle.nodes.proofs.Meaning.{done-evaluated}
+use Rattle.nodes.proofs.RightOwn.{own-right}
 
 pub right : (S : Source) (g c m : List ℕ) → Accepted S g c m → lowered S g c .core .stop ≡ 0 → (v : List ℕ) → evalWords (S .table) (S .addrs) (S .word) v .answer ≡ Done
     → Lowered (recipe S) (meaning S (evalWords (S .table) (S .addrs) (S .word) v .values)) (lowered S g c)

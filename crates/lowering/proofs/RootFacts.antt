@@ -16,10 +16,11 @@ use Rattle.gates.specs.declared.made.At.{At}
 use Rattle.visits.specs.Flow.{Low, visitTo, rootStep, lowerTo}
 use Rattle.visits.specs.Claims.{Start, left}
 use Rattle.visits.proofs.Roots.{start-left, start-fit}
-use Rattle.lowering.specs.declared.own.Progress.{Progress}
-use Rattle.lowering.specs.Source.{Source, nodeOf, totalOf, gatesOf}
-use Rattle.lowering.specs.Lower.{recipe, start, sums, UNREACHED}
-use Rattle.lowering.specs.Asked.{Goes, Begins, Visits, lowOf}
+use Rattle.nodes.specs.declared.own.Progress.{Progress}
+use Rattle.nodes.specs.Source.{Source, nodeOf, totalOf, gatesOf}
+use Rattle.nodes.specs.Recipe.{recipe}
+use Rattle.lowering.specs.Lower.{start, sums, UNREACHED}
+use Rattle.lowering.specs.Visit.{Goes, Begins, Visits, lowOf}
 use Rattle.lowering.proofs.StartLaws.{starts, gates-sum}
 use Rattle.lowering.proofs.VisitFacts.{goes-visited}
 use Rattle.lowering.proofs.Caps.{gates-cap}

@@ -13,12 +13,13 @@ use Rattle.visits.specs.Claims.{Small, Halted}
 use Rattle.visits.proofs.Small as visits
 use Rattle.visits.proofs.Halts as halts
 use Rattle.lowering.specs.declared.lower.Answer.the-variants.{Done, ZeroDivisor}
-use Rattle.lowering.specs.Source.{Source}
-use Rattle.lowering.specs.Lower.{recipe, start, lowered, sums, conRecords, Run, ended, lowerClear, lowerAll, Accepted}
-use Rattle.lowering.proofs.ShapeLaws.{shape}
-use Rattle.lowering.proofs.MemoryLaws.{ReadsOwed, WritesOwed}
-use Rattle.lowering.proofs.DivisionLaws.{DividesOwed, KnownOwed}
-use Rattle.lowering.proofs.OwnLaws.{own-law}
+use Rattle.nodes.specs.Source.{Source}
+use Rattle.nodes.specs.Recipe.{recipe}
+use Rattle.lowering.specs.Lower.{start, lowered, sums, conRecords, Run, ended, lowerClear, lowerAll, Accepted}
+use Rattle.nodes.proofs.ShapeLaws.{shape}
+use Rattle.nodes.proofs.MemoryLaws.{ReadsOwed, WritesOwed}
+use Rattle.nodes.proofs.DivisionLaws.{DividesOwed, KnownOwed}
+use Rattle.nodes.proofs.OwnLaws.{own-law}
 use Rattle.lowering.proofs.StartLaws.{starts}
 
 module _ (S : Source) (g c m : List ℕ) (a : Accepted S g c m) where

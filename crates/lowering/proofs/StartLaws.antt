@@ -14,8 +14,9 @@ use Rattle.netlist.specs.Record.{gate, put, records, Room}
 use Rattle.netlist.proofs.RecordLaws.{put-length, put-same, put-other}
 use Rattle.gates.specs.Law.{Formed}
 use Rattle.visits.specs.Claims.{sumFrom, Start}
-use Rattle.lowering.specs.Source.{Source, listed, gatesOf, asksOf, totalOf}
-use Rattle.lowering.specs.Lower.{recipe, start, sums, conRecords, UNREACHED}
+use Rattle.nodes.specs.Source.{Source, listed, gatesOf, asksOf, totalOf}
+use Rattle.nodes.specs.Recipe.{recipe}
+use Rattle.lowering.specs.Lower.{start, sums, conRecords, UNREACHED}
 
 -- the sum from a node on, with its last term apart
 last-term : (c : ℕ → ℕ) (i n : ℕ) → sumFrom c i (suc n) ≡ sumFrom c i n + c (i + n)

@@ -3,7 +3,7 @@ use mathlib.Core.Path.{_≡_, ap, sym, _∙_}
 use mathlib.Core.List.{List}
 use Prim.Native.Nat.{ℕ}
 use Rattle.lowering.specs.declared.lower.Answer.{Answer}
-use Rattle.lowering.specs.Source.{Source}
+use Rattle.nodes.specs.Source.{Source}
 use Rattle.lowering.specs.Lower.{Run, run, marked, number, node}
 use Rattle.lowering.specs.Promise.{Promise}
 

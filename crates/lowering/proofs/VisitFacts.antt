@@ -18,14 +18,15 @@ use Rattle.visits.specs.Claims.{Is, Shape, OwnLaw}
 use Rattle.visits.proofs.Marks.{positive, left-marked}
 use Rattle.visits.proofs.Later.{Later, Sound, visit-later}
 use Rattle.visits.proofs.Paths.{visit-goes, enter-done}
-use Rattle.lowering.specs.Source.{Source, nodeOf, gatesOf, asksOf, firstOf, secondOf, thirdOf}
-use Rattle.lowering.specs.Own.{ownStep}
-use Rattle.lowering.specs.Lower.{recipe}
-use Rattle.lowering.specs.Asked.{Stands, Owns, Goes, Visits, Enters}
-use Rattle.lowering.proofs.ShapeLaws.{shape}
-use Rattle.lowering.proofs.OwnLaws.{own-law}
-use Rattle.lowering.proofs.Owed.{reads-owed, writes-owed, divides-owed, known-owed}
-use Rattle.lowering.proofs.Facts.{cond-asks, second-path, third-path}
+use Rattle.nodes.specs.Source.{Source, nodeOf, gatesOf, asksOf, firstOf, secondOf, thirdOf}
+use Rattle.nodes.specs.Own.{ownStep}
+use Rattle.nodes.specs.Recipe.{recipe}
+use Rattle.nodes.specs.Asked.{Stands, Owns}
+use Rattle.lowering.specs.Visit.{Goes, Visits, Enters}
+use Rattle.nodes.proofs.ShapeLaws.{shape}
+use Rattle.nodes.proofs.OwnLaws.{own-law}
+use Rattle.nodes.proofs.Owed.{reads-owed, writes-owed, divides-owed, known-owed}
+use Rattle.nodes.proofs.Facts.{cond-asks, second-path, third-path}
 
 -- the law of every own step, with nothing left to owe
 pub own-steps : (S : Source) → tableFault (S .table) (S .addrs) (S .word) ≡ Clear → OwnLaw (recipe S)

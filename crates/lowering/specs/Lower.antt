@@ -1,43 +1,22 @@
 -- The lowering: refusals 1 to 6, then 7, 8, 9, then 10; on success gates, constraints and bit map.
 use mathlib.Core.Path.{_≡_}
 use mathlib.Core.List.{List, _++_}
-use mathlib.Core.Bool.{Bool}
 use Prim.Native.Nat.{ℕ, _+_, _/_, _≤_}
 use lib.Dec.{eqb, ltb}
-use lib.ListN.{length, take, drop, replicate}
+use lib.ListN.{length, drop, replicate}
 use Rattle.loops.specs.Loop.{pick}
-use Rattle.table.specs.Node.{nodes, given}
+use Rattle.table.specs.Node.{nodes}
 use Rattle.table.specs.declared.Sums.{Sums}
 use Rattle.table.specs.declared.Fault.the-variants.{Clear}
 use Rattle.table.specs.Sheet as sheet
 use Rattle.table.specs.Sheet.{tableFault, isClear}
 use Rattle.table.specs.Ceiling.{sumsOf}
 use Rattle.netlist.specs.Record.{gate, put, records}
-use Rattle.visits.specs.Flow.{Core, Low, Recipe, lowerTo}
-use Rattle.division.specs.Constraint.{conUsed}
+use Rattle.visits.specs.Flow.{Low, lowerTo}
 use Rattle.lowering.specs.declared.lower.Answer.{Answer}
 use Rattle.lowering.specs.declared.lower.Answer.the-variants.{Done, Table, GateRoom, BitRoom, ConstraintRoom, ZeroDivisor}
-use Rattle.lowering.specs.Source.{Source, source, listed, nodeOf, bitsOf, offOf, totalOf, gatesOf, asksOf, firstOf, secondOf, thirdOf, blockedOf, badOf}
-use Rattle.lowering.specs.Own.{ownStep}
-
--- what the visits take of a table
-abbrev pub recipe : Source → Recipe
-recipe S =
-    record {
-      size = nodes (S .table) + 1;
-      total = totalOf S;
-      bits = bitsOf S;
-      off = offOf S;
-      gates = gatesOf S;
-      asks = asksOf S;
-      first = firstOf S;
-      second = secondOf S;
-      third = thirdOf S;
-      own = ownStep S;
-      given = λ k. given (nodeOf S k);
-      bad = badOf S;
-      blocked = blockedOf S;
-    }
+use Rattle.nodes.specs.Source.{Source, listed, totalOf}
+use Rattle.nodes.specs.Recipe.{recipe}
 
 -- the sheet's number of an answer, and the node beside it; 0 is no refusal
 abbrev pub number : Answer → ℕ

@@ -12,10 +12,11 @@ use Rattle.visits.specs.Flow.{Core, Low}
 use Rattle.visits.specs.Claims.{Is, Lowered, Small, Halted}
 use Rattle.lowering.specs.declared.lower.Answer.{Answer}
 use Rattle.lowering.specs.declared.lower.Answer.the-variants.{Done}
-use Rattle.lowering.specs.Source.{Source, totalOf, gatesOf}
-use Rattle.lowering.specs.Own.{ownStep}
-use Rattle.lowering.specs.Lower.{recipe, run, start, lowered, lowerAll, Accepted, number}
-use Rattle.lowering.specs.Meaning.{meaning}
+use Rattle.nodes.specs.Source.{Source, totalOf, gatesOf}
+use Rattle.nodes.specs.Own.{ownStep}
+use Rattle.nodes.specs.Recipe.{recipe}
+use Rattle.lowering.specs.Lower.{run, start, lowered, lowerAll, Accepted, number}
+use Rattle.nodes.specs.Meaning.{meaning}
 
 -- what the buffers say of a lowering that is done: n gates, k constraints, the bit map; z marks nodes
 abbrev pub said : Source → List ℕ → List ℕ → List ℕ → ℕ → ℕ → List ℕ → Low

@@ -4,7 +4,7 @@ ghost use Prim.Native.Nat.{ℕ, _≤_};
 ghost use lib.ListN.{length};
 ghost use Rattle.table.specs.declared.Fault.the-variants as fault;
 ghost use Rattle.table.specs.Sheet.{tableFault};
-ghost use Rattle.lowering.specs.Source.{source};
+ghost use Rattle.nodes.specs.Source.{source};
 ghost use Rattle.lowering.specs.Lower as spec;
 ghost use Rattle.lowering.specs.Lower.{run, lowered, ended, lowerClear, lowerAll, marked, Accepted};
 ghost use Rattle.lowering.specs.Promise.{Promise};

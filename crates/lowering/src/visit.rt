@@ -3,14 +3,14 @@ ghost use mathlib.Core.Path.{_≡_};
 ghost use Prim.Native.Nat.{ℕ, _≤_};
 ghost use Rattle.table.specs.Node.{nodes};
 ghost use Rattle.visits.specs.Claims.{Is};
-ghost use Rattle.lowering.specs.Source.{source, gatesOf, asksOf};
-ghost use Rattle.lowering.specs.Lower.{recipe};
-ghost use Rattle.lowering.specs.Asked.{Goes, Visits, Enters, lowOf};
-use crate::operand::condition;
-use crate::operand::second;
-use crate::operand::third;
-use crate::own::Progress;
-use crate::own::own_step;
+ghost use Rattle.nodes.specs.Source.{source, gatesOf, asksOf};
+ghost use Rattle.nodes.specs.Recipe.{recipe};
+ghost use Rattle.lowering.specs.Visit.{Goes, Visits, Enters, lowOf};
+use nodes::operand::condition;
+use nodes::operand::second;
+use nodes::operand::third;
+use nodes::own::Progress;
+use nodes::own::own_step;
 use table::field::node_at;
 
 // Node k and what it leans on, unless it is none, was seen, or the lowering has stopped.

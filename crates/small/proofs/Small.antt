@@ -45,8 +45,8 @@ use Rattle.visits.specs.Stored.{stored}
 use Rattle.lowering.specs.declared.lower.Answer.{Answer}
 use Rattle.lowering.specs.declared.lower.Answer.the-variants.{Done, Table, GateRoom, BitRoom, ConstraintRoom, ZeroDivisor}
 use Rattle.lowering.specs.Lower.{Run, number, start, ended, lowerClear, lowerAll}
-use Rattle.lowering.specs.Own.{wordStep, inputStep, inputWord, shareWord, chooseWord, readWord, plainWord, wordOwn, writeOwn, divideOwn, iteOwn, madeBy, ownStep}
-use Rattle.lowering.specs.Source.{source, offOf, wordsOf, wideOf, bitsOf, gatesOf, asksOf, secondOf, thirdOf, blockedOf}
+use Rattle.nodes.specs.Own.{wordStep, inputStep, inputWord, shareWord, chooseWord, readWord, plainWord, wordOwn, writeOwn, divideOwn, iteOwn, madeBy, ownStep}
+use Rattle.nodes.specs.Source.{source, offOf, wordsOf, wideOf, bitsOf, gatesOf, asksOf, secondOf, thirdOf, blockedOf}
 
 -- W = 2, addresses 0 and 2
 abbrev pub table : List ℕ

@@ -1,5 +1,5 @@
 use Rattle.lowering.proofs.LowerFacts.{no-gate-room, no-bit-room, no-constraint-room, accepted, roomy}
-use Rattle.lowering.specs.Source.{source}
+use Rattle.nodes.specs.Source.{source}
 use borrow.Author.Needs.{needs}
 use Rattle.lowering.proofs.lower.lower_clear.Statement.{statement}
 use Rattle.lowering.proofs.lower.lower_clear.Tie as tie

@@ -2,7 +2,7 @@ use borrow.Author.Tests.{not-true, not-false}
 use native.Mathlib.Omega.{arith}
 use Rattle.lowering.proofs.PromiseLaws.{promise}
 use Rattle.lowering.proofs.LowerFacts.{faulty, clear-table, clear-all, faulty-marks}
-use Rattle.lowering.specs.Source.{source}
+use Rattle.nodes.specs.Source.{source}
 use borrow.Author.Needs.{needs}
 use Rattle.lowering.proofs.lower.lower_marked.Statement.{statement}
 use Rattle.lowering.proofs.lower.lower_marked.Tie as tie

@@ -1,7 +1,7 @@
 use lib.ListN.{drop}
 use mathlib.Core.List.{_++_}
 use Rattle.lowering.proofs.LowerFacts.{offsets-asks, marks-room, map-room, begins, lent-long, ended-done, ended-stopped, zeroed}
-use Rattle.lowering.specs.Source.{source}
+use Rattle.nodes.specs.Source.{source}
 use lib.Seq.{length-take-le}
 use native.Mathlib.Omega.{arith}
 use mathlib.Core.Path.{_≡_, sym}

@@ -1,5 +1,5 @@
 use Rattle.lowering.proofs.RootFacts.{room-two, begin-goes, from-start}
-use Rattle.lowering.specs.Source.{source}
+use Rattle.nodes.specs.Source.{source}
 use native.Mathlib.Omega.{arith}
 use borrow.Author.Needs.{needs}
 use Rattle.lowering.proofs.root.lower_roots.Statement.{statement}

@@ -1,6 +1,6 @@
 use Rattle.lowering.proofs.RootFacts.{root-skip, root-visit}
-use Rattle.lowering.specs.Asked.{lowOf}
-use Rattle.lowering.specs.Source.{source}
+use Rattle.lowering.specs.Visit.{lowOf}
+use Rattle.nodes.specs.Source.{source}
 use borrow.Author.Needs.{needs}
 use Rattle.lowering.proofs.root.root_step.Statement.{statement}
 use Rattle.lowering.proofs.root.root_step.Tie as tie

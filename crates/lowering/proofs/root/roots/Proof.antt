@@ -1,7 +1,7 @@
 use Rattle.lowering.proofs.RootFacts.{goes-root, all-roots}
-use Rattle.lowering.specs.Asked.{Goes, lowOf}
-use Rattle.lowering.specs.Lower.{recipe}
-use Rattle.lowering.specs.Source.{source}
+use Rattle.lowering.specs.Visit.{Goes, lowOf}
+use Rattle.nodes.specs.Recipe.{recipe}
+use Rattle.nodes.specs.Source.{source}
 use Rattle.visits.specs.Flow.{rootStep}
 use Rattle.table.specs.Node.{nodes}
 use Rattle.loops.proofs.Loop.{loop-none, loop-more}

@@ -1,7 +1,7 @@
 use Rattle.lowering.proofs.VisitFacts.{goes-mark, is-node, first-less, first-asks, cond-asks1, second-less, second-asks, cond-asks2, third-less, third-asks, own-asks, entered}
-use Rattle.lowering.specs.Asked.{lowOf}
-use Rattle.lowering.specs.Lower.{recipe}
-use Rattle.lowering.specs.Source.{source}
+use Rattle.lowering.specs.Visit.{lowOf}
+use Rattle.nodes.specs.Recipe.{recipe}
+use Rattle.nodes.specs.Source.{source}
 use Rattle.visits.proofs.Paths.{visit-stopped, visit-none, visit-seen, visit-goes}
 use borrow.Author.Needs.{needs}
 use lib.ListN.{length-set}
@@ -17,10 +17,10 @@ use Rattle.lowering.proofs.visit.+process+visit.Lts-process as process-
 use Rattle.lowering.proofs.visit.visit.Reads as visit
 use Rattle.lowering.proofs.visit.visit.Kinds as visit-kinds
 use Rattle.lowering.proofs.visit.+process+visit.Lts-visit as visit-lts
-use Rattle.lowering.proofs.operand.condition.Reads as condition-reads
-use Rattle.lowering.proofs.operand.second.Reads as second-reads
-use Rattle.lowering.proofs.operand.third.Reads as third-reads
-use Rattle.lowering.proofs.own.own_step.Reads as own-step-reads
+use Rattle.nodes.proofs.operand.condition.Reads as condition-reads
+use Rattle.nodes.proofs.operand.second.Reads as second-reads
+use Rattle.nodes.proofs.operand.third.Reads as third-reads
+use Rattle.nodes.proofs.own.own_step.Reads as own-step-reads
 use Rattle.table.proofs.field.node_at.Reads as node-at-reads
 use Rattle.lowering.proofs.visit.+process+visit.{statement}
 use Rattle.lowering.proofs.visit.+process+visit.Tie.{close}

@@ -1,0 +1,116 @@
+-- What a table without fault gives to the code that tells a node's own step by its kind.
+use mathlib.Core.Path.{_≡_, refl, ap, sym, _∙_, subst}
+use mathlib.Core.List.{List}
+use mathlib.Core.Logic.{_⊎_, inl, inr}
+use mathlib.Core.Bool.{Bool, true, false}
+use Prim.Native.Nat.{ℕ, _+_, _≤_, _<_}
+use native.Mathlib.Omega.{arith}
+use lib.Dec.{eqb}
+use lib.ListN.{length}
+use borrow.Author.Tests.{eq-eqb, ne-eqb}
+use Rattle.loops.proofs.Loop.{pick-true, pick-false}
+use Rattle.table.specs.declared.Node.{Node}
+use Rattle.table.specs.Kind.{STATE, ITE, READ, WRITE, divides}
+use Rattle.table.specs.Node.{widthOf, given}
+use Rattle.table.proofs.Whole.{Sound, Operands, Rule, is-const, is-input, is-state, is-not, is-bad, is-and, is-ext, is-eq, is-add, is-ite, is-sub, is-ult, is-mul, is-divu, is-rem, is-read, is-write}
+use Rattle.values.proofs.Seen.{initial}
+use Rattle.netlist.specs.Net.{Net}
+use Rattle.gates.specs.declared.made.At.{At}
+use Rattle.gates.specs.Made.{netOf, Fits}
+use Rattle.visits.specs.Flow.{Core}
+use Rattle.nodes.specs.declared.own.Progress.{Progress}
+use Rattle.nodes.specs.Source.{Source, nodeOf, wordsOf, gatesOf, blockedOf}
+use Rattle.nodes.specs.Own.{shares, eachWord, inputWord, shareWord, readWord, wordOwn, iteOwn, divideOwn, writeOwn, madeBy, ownStep}
+use Rattle.nodes.specs.Asked.{Stands, Makes, Owns, Plain, coreAt, coreOf, Turned, Mapped, Counted}
+use Rattle.nodes.proofs.Places.{word-words, sound-of}
+use Rattle.nodes.proofs.ShareLaws.{same-words}
+use Rattle.nodes.proofs.OwnKinds.{by-input, by-share, by-ite, by-divide, by-read, by-write, by-word}
+use Rattle.nodes.proofs.WordFacts.{clash}
+
+-- the operand whose bits a node shares
+pub record Shared (S : Source) (k x : ℕ) : Type 0 where
+  pub some : 1 ≤ x
+  pub less : x < k
+  pub words : wordsOf S k ≡ wordsOf S x
+
+module _ (S : Source) (k : ℕ) (node : Sound (S .table) (S .word) k) (g : given (nodeOf S k) ≡ false) (h : shares (nodeOf S k) ≡ true) where
+  -- it is an initial node, a bad's or an ext's operand
+  shared : Rule (S .word) (nodeOf S k) (widthOf (S .table) (nodeOf S k .a)) (widthOf (S .table) (nodeOf S k .b)) (widthOf (S .table) (nodeOf S k .c)) → Shared S k (nodeOf S k .a)
+  shared (is-state e (inl z)) = absurd (omega (arith, initial (nodeOf S k) e g))
+  shared (is-state e (inr v)) = record { some = initial (nodeOf S k) e g; less = node .operands .a; words = same-words S k (nodeOf S k .a) (sym v) }
+  shared (is-bad e v va) = record { some = node .operands .a-used (rw e); less = node .operands .a; words = same-words S k (nodeOf S k .a) (v ∙ sym va) }
+  shared (is-ext e v va) = record { some = node .operands .a-used (rw e); less = node .operands .a; words = word-words S k (omega arith) ∙ sym (word-words S (nodeOf S k .a) va) }
+  shared (is-const e v i) = clash (sym h ∙ rw e)
+  shared (is-input e) = clash (sym h ∙ rw e)
+  shared (is-not e v va) = clash (sym h ∙ rw e)
+  shared (is-and e v) = clash (sym h ∙ rw e)
+  shared (is-eq e v) = clash (sym h ∙ rw e)
+  shared (is-add e v) = clash (sym h ∙ rw e)
+  shared (is-ite e va vb vc) = clash (sym h ∙ rw e)
+  shared (is-sub e v) = clash (sym h ∙ rw e)
+  shared (is-ult e v) = clash (sym h ∙ rw e)
+  shared (is-mul e v) = clash (sym h ∙ rw e)
+  shared (is-divu e v) = clash (sym h ∙ rw e)
+  shared (is-rem e v) = clash (sym h ∙ rw e)
+  shared (is-read e v va vb) = clash (sym h ∙ rw e)
+  shared (is-write e v va vb vc) = clash (sym h ∙ rw e)
+
+-- a step that the kind comes to is the own step
+as-made : (S : Source) (k : ℕ) (f : Core → Core) → ((s : Core) → madeBy S k s ≡ f s) → (s : Net) (m : List ℕ) (s′ : Net) (m′ : List ℕ) → Turned f s m s′ m′ → Turned (madeBy S k) s m s′ m′
+as-made S k f same s m s′ m′ t = λ c nc stop. t c nc stop ∙ sym (same _)
+
+module _ (S : Source) (o : List ℕ) (long k : ℕ) (h : Stands S o long k) (d : Node) (same : d ≡ nodeOf S k) where
+  kind : d .kind ≡ nodeOf S k .kind
+  kind = ap (λ (x : Node). x .kind) same
+
+  pub given-asks : given d ≡ true → given (nodeOf S k) ≡ true
+  given-asks g = rw same at g
+
+  pub share-asks : given d ≡ false → shares d ≡ true → Shared S k (d .a)
+  share-asks g e = rw same (shared S k (sound-of S (h .clear) k (h .is)) (rw same at g) (rw same at e) (sound-of S (h .clear) k (h .is) .sort))
+
+  module _ (s : Net) (m : List ℕ) (s′ : Net) (m′ : List ℕ) where
+    pub input-made : given d ≡ true → Turned (eachWord S k (inputWord S k)) s m s′ m′ → Turned (madeBy S k) s m s′ m′
+    input-made g = as-made S k _ (λ t. by-input S k t (given-asks g)) s m s′ m′
+
+    pub ite-made : d .kind ≡ ITE → Turned (iteOwn S k) s m s′ m′ → Turned (madeBy S k) s m s′ m′
+    ite-made e = as-made S k _ (λ t. by-ite S k t (sym kind ∙ e)) s m s′ m′
+
+    pub read-made : d .kind ≡ READ → Turned (eachWord S k (readWord S k)) s m s′ m′ → Turned (madeBy S k) s m s′ m′
+    read-made e = as-made S k _ (λ t. by-read S k t (sym kind ∙ e)) s m s′ m′
+
+    pub write-made : d .kind ≡ WRITE → Turned (writeOwn S k) s m s′ m′ → Turned (madeBy S k) s m s′ m′
+    write-made e = as-made S k _ (λ t. by-write S k t (sym kind ∙ e)) s m s′ m′
+
+    pub word-made : Plain d → Turned (eachWord S k (wordOwn S k)) s m s′ m′ → Turned (madeBy S k) s m s′ m′
+    word-made p = as-made S k _ (λ t. by-word S k t (subst (λ (x : Node). Plain x) same p)) s m s′ m′
+
+  pub share-made : given d ≡ false → shares d ≡ true → (s : Net) (m m′ : List ℕ) → Mapped (eachWord S k (shareWord S (d .a))) m m′ → Turned (madeBy S k) s m s m′
+  share-made g e s m m′ t =
+      as-made S k _ (λ u. by-share S k u (rw same at g) (rw same at e)) s m s m′ (subst (λ (x : Node). Turned (eachWord S k (shareWord S (x .a))) s m s m′) same (t s))
+
+-- none of the kinds that are told before
+pub plainly : (d : Node) → given d ≡ false → shares d ≡ false → (d .kind ≡ ITE → ⊥) → divides (d .kind) ≡ false → (d .kind ≡ READ → ⊥) → (d .kind ≡ WRITE → ⊥) → Plain d
+plainly d g h i v r w =
+    record { given = g; shares = h; chooses = ne-eqb (d .kind) ITE i; divides = v; reads = ne-eqb (d .kind) READ r; writes = ne-eqb (d .kind) WRITE w }
+
+-- the room of a node's own gates
+pub makes : {S : Source} {o g c m : List ℕ} {k : ℕ} {p : Progress} → Owns S o k (coreOf g c m p) → Makes S o g (p .at) (length m) k
+makes h = record { stands = h .stands; room = (h .room, h .cap) }
+
+-- the own step, path by path
+module _ (S : Source) (k : ℕ) (s : Core) where
+  pub own-stopped : (s .stop ≡ 0 → ⊥) → s ≡ ownStep S k s
+  unfolding ownStep
+  own-stopped h = sym (pick-false _ _ _ (ne-eqb (s .stop) 0 h))
+
+  pub own-blocked : s .stop ≡ 0 → blockedOf S (s .map) k ≡ true → coreAt (s .net) (s .cons) (s .nc) (s .map) k ≡ ownStep S k s
+  unfolding ownStep
+  own-blocked z b = sym (pick-true _ _ _ (eq-eqb (s .stop) 0 z) ∙ pick-true _ _ _ b)
+
+  pub own-made : s .stop ≡ 0 → blockedOf S (s .map) k ≡ false → (r : Core) → r ≡ madeBy S k s → r ≡ ownStep S k s
+  unfolding ownStep
+  own-made z b r e = e ∙ sym (pick-true _ _ _ (eq-eqb (s .stop) 0 z) ∙ pick-false _ _ _ b)
+
+  pub own-divided : s .stop ≡ 0 → blockedOf S (s .map) k ≡ false → (d : Node) → d ≡ nodeOf S k → divides (d .kind) ≡ true → (r : Core) → r ≡ divideOwn S k s → r ≡ ownStep S k s
+  own-divided z b d same v r e = own-made z b r (e ∙ sym (by-divide S k s (rw same at v)))

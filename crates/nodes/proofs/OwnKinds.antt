@@ -1,0 +1,51 @@
+-- The own step by its kind: which of its cases a node comes to.
+use mathlib.Core.Path.{_≡_, refl, _∙_}
+use mathlib.Core.Bool.{Bool, true, false, _||_}
+use Prim.Native.Nat.{ℕ}
+use native.Mathlib.Omega.{arith}
+use lib.Dec.{eqb}
+use borrow.Author.Tests.{eqb-true}
+use Rattle.loops.specs.Loop.{pick}
+use Rattle.loops.proofs.Loop.{pick-true, pick-false, either}
+use Rattle.table.specs.declared.Node.{Node}
+use Rattle.table.specs.Kind.{ITE, DIVU, REM, READ, WRITE, divides}
+use Rattle.table.specs.Node.{given}
+use Rattle.visits.specs.Flow.{Core}
+use Rattle.nodes.specs.Source.{Source, nodeOf}
+use Rattle.nodes.specs.Own.{shares, eachWord, inputWord, shareWord, readWord, wordOwn, iteOwn, divideOwn, writeOwn, madeBy}
+use Rattle.nodes.specs.Asked.{Plain}
+
+module _ (S : Source) (k : ℕ) (s : Core) where
+  abbrev d : Node
+  d = nodeOf S k
+
+  pub by-input : given d ≡ true → madeBy S k s ≡ eachWord S k (inputWord S k) s
+  unfolding madeBy
+  by-input g = pick-true _ _ _ g
+
+  pub by-share : given d ≡ false → shares d ≡ true → madeBy S k s ≡ eachWord S k (shareWord S (d .a)) s
+  unfolding madeBy
+  by-share g h = pick-false _ _ _ g ∙ pick-true _ _ _ h
+
+  pub by-ite : d .kind ≡ ITE → madeBy S k s ≡ iteOwn S k s
+  unfolding madeBy pick
+  by-ite e = rw e
+
+  pub by-divide : divides (d .kind) ≡ true → madeBy S k s ≡ divideOwn S k s
+  unfolding madeBy pick
+  by-divide h = either (eqb (d .kind) DIVU) (eqb (d .kind) REM) _ (λ e. rw (eqb-true (d .kind) DIVU e)) (λ e. rw (eqb-true (d .kind) REM e)) h
+
+  pub by-read : d .kind ≡ READ → madeBy S k s ≡ eachWord S k (readWord S k) s
+  unfolding madeBy pick
+  by-read e = rw e
+
+  pub by-write : d .kind ≡ WRITE → madeBy S k s ≡ writeOwn S k s
+  unfolding madeBy pick
+  by-write e = rw e
+
+  -- none of the above
+  pub by-word : Plain d → madeBy S k s ≡ eachWord S k (wordOwn S k) s
+  unfolding madeBy
+  by-word p =
+      pick-false _ _ _ (p .given)
+      ∙ (pick-false _ _ _ (p .shares) ∙ (pick-false _ _ _ (p .chooses) ∙ (pick-false _ _ _ (p .divides) ∙ (pick-false _ _ _ (p .reads) ∙ pick-false _ _ _ (p .writes)))))

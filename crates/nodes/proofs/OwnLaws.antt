@@ -1,0 +1,103 @@
+-- The law of a node's own step, by the line of the sorts under which the node stands.
+use mathlib.Core.Path.{_≡_, refl, sym, _∙_}
+use mathlib.Core.Logic.{_⊎_, inl, inr}
+use mathlib.Core.Bool.{true, false}
+use Prim.Native.Nat.{ℕ, _≤_}
+use native.Mathlib.Omega.{arith}
+use lib.Dec.{eqb}
+use lib.ListN.{length}
+use borrow.Author.Tests.{eqb-false, ne-eqb}
+use Rattle.loops.specs.Loop.{pick}
+use Rattle.loops.proofs.Loop.{by-pick, pick-false}
+use Rattle.table.specs.declared.Fault.the-variants.{Clear}
+use Rattle.table.specs.Node.{nodeAt, widthOf, aOf, bOf, cOf}
+use Rattle.table.specs.Sheet.{tableFault}
+use Rattle.table.proofs.Whole.{Sound, Rule, is-const, is-input, is-state, is-not, is-bad, is-and, is-ext, is-eq, is-add, is-ite, is-sub, is-ult, is-mul, is-divu, is-rem, is-read, is-write}
+use Rattle.gates.proofs.Laws.{grows-refl}
+use Rattle.visits.specs.Flow.{Core}
+use Rattle.visits.specs.Claims.{Is, Step, OwnLaw}
+use Rattle.visits.proofs.Marks.{positive}
+use Rattle.nodes.specs.Source.{Source, nodeOf, wordsOf, totalOf, gatesOf, blockedOf}
+use Rattle.nodes.specs.Own.{eachWord, shareWord, madeBy, ownStep}
+use Rattle.nodes.specs.Recipe.{recipe}
+use Rattle.nodes.proofs.Places.{word-words, sound-of}
+use Rattle.nodes.proofs.StepLaws.{reads-a, one-word, const-word, not-word, and-word, add-word, sub-word, mul-word, eq-word, ult-word}
+use Rattle.nodes.proofs.ShareLaws.{same-words, input-step, share-step, ite-step}
+use Rattle.nodes.proofs.MemoryLaws.{ReadsOwed, WritesOwed, read-step, write-step}
+use Rattle.nodes.proofs.DivisionLaws.{DividesOwed, KnownOwed, divide-step}
+
+module _ (S : Source) (clear : tableFault (S .table) (S .addrs) (S .word) ≡ Clear) (reads : ReadsOwed S) (writes : WritesOwed S) (divided : DividesOwed) (known : KnownOwed) where
+  module _ (k : ℕ) (is : Is (recipe S) k) (s : Core) (mapped : length (s .map) ≡ totalOf S) (run : s .stop ≡ 0) where
+    module _ (goes : blockedOf S (s .map) k ≡ false) where
+      node : Sound (S .table) (S .word) k
+      node = sound-of S clear k is
+
+      -- the first operand's bits are shared
+      share-first : 1 ≤ nodeOf S k .a → wordsOf S k ≡ wordsOf S (nodeOf S k .a) → Step (recipe S) k s (eachWord S k (shareWord S (nodeOf S k .a)) s)
+      share-first some words = share-step S clear k is s mapped run goes (nodeOf S k .a) some (node .operands .a) words (λ b o. reads-a S k s b o some)
+
+      -- an initial node has the state's sort
+      initial : (nodeOf S k .a ≡ 0 → ⊥) → (nodeOf S k .a ≡ 0) ⊎ (widthOf (S .table) (nodeOf S k .a) ≡ nodeOf S k .width)
+          → Step (recipe S) k s (eachWord S k (shareWord S (nodeOf S k .a)) s)
+      initial ne (inl z) = absurd (ne z)
+      initial ne (inr v) = share-first (positive (nodeOf S k .a) ne) (same-words S k (nodeOf S k .a) (sym v))
+
+      made : Rule (S .word) (nodeAt (S .table) k) (widthOf (S .table) (aOf (S .table) k)) (widthOf (S .table) (bOf (S .table) k)) (widthOf (S .table) (cOf (S .table) k))
+          → Step (recipe S) k s (madeBy S k s)
+      unfolding madeBy pick
+      made (is-const e v i) = rw e (one-word S clear k is s mapped run goes v (λ i x t. const-word S clear k is s mapped run goes i x t e v))
+      made (is-input e) = rw e (input-step S clear k is s mapped run goes (rw e))
+      made (is-state e v) =
+          rw e
+          (by-pick (Step (recipe S) k s) (eqb (nodeOf S k .a) 0) _ _ (λ z. input-step S clear k is s mapped run goes (rw (e, z))) (λ z. initial (eqb-false (nodeOf S k .a) 0 z) v))
+      made (is-not e v va) = rw e (one-word S clear k is s mapped run goes v (λ i x t. not-word S clear k is s mapped run goes i x t e v va))
+      made (is-bad e v va) = rw e (share-first (node .operands .a-used (rw e)) (same-words S k (nodeOf S k .a) (v ∙ sym va)))
+      made (is-and e v) = rw e (one-word S clear k is s mapped run goes (v .word) (λ i x t. and-word S clear k is s mapped run goes i x t v e))
+      made (is-ext e v va) = rw e (share-first (node .operands .a-used (rw e)) (word-words S k (omega arith) ∙ sym (word-words S (nodeOf S k .a) va)))
+      made (is-eq e v) = rw e (one-word S clear k is s mapped run goes (omega (arith, v .one)) (λ i x t. eq-word S clear k is s mapped run goes i x t v e))
+      made (is-add e v) = rw e (one-word S clear k is s mapped run goes (v .word) (λ i x t. add-word S clear k is s mapped run goes i x t v e))
+      made (is-ite e va vb vc) = rw e (ite-step S clear k is s mapped run goes e va vb vc)
+      made (is-sub e v) = rw e (one-word S clear k is s mapped run goes (v .word) (λ i x t. sub-word S clear k is s mapped run goes i x t v e))
+      made (is-ult e v) = rw e (one-word S clear k is s mapped run goes (omega (arith, v .one)) (λ i x t. ult-word S clear k is s mapped run goes i x t v e))
+      made (is-mul e v) = rw e (one-word S clear k is s mapped run goes (v .word) (λ i x t. mul-word S clear k is s mapped run goes i x t v e))
+      made (is-divu e v) = rw e (divide-step S clear k is s mapped run goes divided known (rw e) v)
+      made (is-rem e v) = rw e (divide-step S clear k is s mapped run goes divided known (rw e) v)
+      made (is-read e v va vb) = rw e (read-step S clear k is s mapped run goes reads e v va vb)
+      made (is-write e v va vb vc) = rw e (write-step S clear k is s mapped run goes writes e v va vb vc)
+
+    -- where a divisor is known to be zero the lowering stops, and nothing else is done
+    stopped : blockedOf S (s .map) k ≡ true → Step (recipe S) k s (record { net = s .net; cons = s .cons; nc = s .nc; map = s .map; stop = k })
+    stopped b =
+        record {
+          frame =
+              record {
+                grows = grows-refl (s .net) (gatesOf S k);
+                consLong = refl;
+                consFrom = omega arith;
+                consUpto = omega arith;
+                consSame = λ i l. refl;
+                consRest = λ i l. refl;
+                mapLong = refl;
+                mapBelow = λ i l. refl;
+                mapAbove = λ i l. refl;
+              };
+          stops = λ _. (refl, b);
+          runs = λ z. absurd (omega (arith, is .low));
+          formed = λ r z. absurd (omega (arith, is .low));
+          known = λ r z g o. absurd (omega (arith, is .low));
+          asked = λ r z. absurd (omega (arith, is .low));
+        }
+
+    step : Step (recipe S) k s (ownStep S k s)
+    unfolding ownStep
+    step =
+        by-pick (Step (recipe S) k s) (eqb (s .stop) 0) _ _
+        (λ _. by-pick (Step (recipe S) k s) (blockedOf S (s .map) k) _ _ stopped (λ goes. made goes (sound-of S clear k is .sort)))
+        (λ ne. absurd (eqb-false (s .stop) 0 ne run))
+
+  idle : (k : ℕ) (s : Core) → (s .stop ≡ 0 → ⊥) → ownStep S k s ≡ s
+  unfolding ownStep
+  idle k s ne = pick-false _ _ _ (ne-eqb (s .stop) 0 ne)
+
+  pub own-law : OwnLaw (recipe S)
+  own-law = record { idle = idle; step = λ k s is mapped run. step k is s mapped run }

@@ -1,0 +1,165 @@
+-- The recipe of a table without fault has the shape that the visits ask.
+use mathlib.Core.Path.{_≡_, refl, ap, sym, _∙_}
+use mathlib.Core.List.{List}
+use mathlib.Core.Bool.{Bool, true, false, _&&_, false≢true}
+use Prim.Native.Nat.{ℕ, _+_, _*_, _≤_, _<_}
+use native.Mathlib.Omega.{arith}
+use lib.Dec.{eqb}
+use lib.ListN.{getD}
+use borrow.Author.Tests.{eqb-true, ne-eqb}
+use Rattle.loops.specs.Loop.{pick}
+use Rattle.loops.proofs.Loop.{by-pick, either}
+use Rattle.table.specs.declared.Node.{Node}
+use Rattle.table.specs.declared.Fault.the-variants.{Clear}
+use Rattle.table.specs.Kind.{ITE, DIVU, REM, divides, usesB}
+use Rattle.table.specs.Node.{widthOf}
+use Rattle.table.specs.Sheet.{tableFault}
+use Rattle.table.proofs.Whole.{Sound, Rule, Even, is-const, is-input, is-state, is-not, is-bad, is-and, is-ext, is-eq, is-add, is-ite, is-sub, is-ult, is-mul, is-divu, is-rem, is-read, is-write}
+use Rattle.netlist.specs.Bit.{isKnown}
+use Rattle.digits.specs.Digits.{allKnown, knownBits, knownNumber}
+use Rattle.digits.proofs.Numbers.{number-same}
+use Rattle.digits.proofs.Words.{all-true, below-all}
+use Rattle.visits.specs.Claims.{Is, Same, Shape}
+use Rattle.nodes.specs.Source.{Source, nodeOf, wideOf, bitsOf, offOf, conditionOf, firstOf, secondOf, thirdOf, blockedOf, wordAt}
+use Rattle.nodes.specs.Recipe.{recipe}
+use Rattle.nodes.proofs.Places.{no-bits, off-apart, off-inside, sound-of, part-at, bits-words, word-words, word-wide}
+
+-- words of the same bits are known alike, and then say one number
+module _ (A B : List ℕ) (w : ℕ) (same : (j : ℕ) → j < w → getD A j 0 ≡ getD B j 0) where
+  known-alike : allKnown w A ≡ allKnown w B
+  known-alike = go (allKnown w A) (allKnown w B) refl refl
+    where
+      go : (p q : Bool) → allKnown w A ≡ p → allKnown w B ≡ q → allKnown w A ≡ allKnown w B
+      go true q e f = e ∙ sym (below-all B w (λ j l. rw (← same j l) (all-true A w e j l)))
+      go false true e f = below-all A w (λ j l. rw (same j l) (all-true B w f j l)) ∙ sym f
+      go false false e f = e ∙ sym f
+
+  number-alike : knownNumber w A ≡ knownNumber w B
+  number-alike = number-same (knownBits A) (knownBits B) w (λ j l. ap (λ (b : ℕ). eqb b 1) (same j l))
+
+-- a division is a word over two of its width
+pub divided : {w : ℕ} {d : Node} {va vb vc : ℕ} → Rule w d va vb vc → divides (d .kind) ≡ true → Even (d .width) va vb
+divided (is-const e a b) h = absurd (false≢true (rw e at h))
+divided (is-input e) h = absurd (false≢true (rw e at h))
+divided (is-state e a) h = absurd (false≢true (rw e at h))
+divided (is-not e a b) h = absurd (false≢true (rw e at h))
+divided (is-bad e a b) h = absurd (false≢true (rw e at h))
+divided (is-and e s) h = s
+divided (is-ext e a b) h = absurd (false≢true (rw e at h))
+divided (is-eq e s) h = absurd (false≢true (rw e at h))
+divided (is-add e s) h = s
+divided (is-ite e a b c) h = absurd (false≢true (rw e at h))
+divided (is-sub e s) h = s
+divided (is-ult e s) h = absurd (false≢true (rw e at h))
+divided (is-mul e s) h = s
+divided (is-divu e s) h = s
+divided (is-rem e s) h = s
+divided (is-read e a b c) h = absurd (false≢true (rw e at h))
+divided (is-write e a b c f) h = absurd (false≢true (rw e at h))
+
+pub divides-two : (k : ℕ) → divides k ≡ true → usesB k ≡ true
+divides-two k h = either (eqb k DIVU) (eqb k REM) (usesB k ≡ true) (λ e. rw (eqb-true k DIVU e)) (λ e. rw (eqb-true k REM e)) h
+
+-- the condition of an ite is one bit
+pub conditioned : {w : ℕ} {d : Node} {va vb vc : ℕ} → Rule w d va vb vc → d .kind ≡ ITE → va ≡ 1
+conditioned (is-const e a b) h = absurd (omega arith)
+conditioned (is-input e) h = absurd (omega arith)
+conditioned (is-state e a) h = absurd (omega arith)
+conditioned (is-not e a b) h = absurd (omega arith)
+conditioned (is-bad e a b) h = b
+conditioned (is-and e s) h = absurd (omega arith)
+conditioned (is-ext e a b) h = absurd (omega arith)
+conditioned (is-eq e s) h = absurd (omega arith)
+conditioned (is-add e s) h = absurd (omega arith)
+conditioned (is-ite e a b c) h = a
+conditioned (is-sub e s) h = absurd (omega arith)
+conditioned (is-ult e s) h = absurd (omega arith)
+conditioned (is-mul e s) h = absurd (omega arith)
+conditioned (is-divu e s) h = absurd (omega arith)
+conditioned (is-rem e s) h = absurd (omega arith)
+conditioned (is-read e a b c) h = absurd (omega arith)
+conditioned (is-write e a b c f) h = absurd (omega arith)
+
+-- the operands that are read, by kind
+module _ (S : Source) (m : List ℕ) (k : ℕ) where
+  pub second-else : (nodeOf S k .kind ≡ ITE → ⊥) → secondOf S m k ≡ nodeOf S k .b
+  unfolding secondOf pick
+  second-else h = rw (ne-eqb (nodeOf S k .kind) ITE h)
+
+  pub third-else : (nodeOf S k .kind ≡ ITE → ⊥) → thirdOf S m k ≡ nodeOf S k .c
+  unfolding thirdOf pick
+  third-else h = rw (ne-eqb (nodeOf S k .kind) ITE h)
+
+-- a word in two maps that have its bits alike
+word-same : (S : Source) (m t : List ℕ) (x : ℕ) → 1 ≤ x → 1 ≤ widthOf (S .table) x → Same (recipe S) m t x → (j : ℕ) → j < wideOf S x
+    → getD (wordAt S t x 0) j 0 ≡ getD (wordAt S m x 0) j 0
+word-same S m t x some word same j l =
+    let e : offOf S x + 0 * wideOf S x + j ≡ offOf S x + j = omega arith in
+    let q : j < bitsOf S x = omega (arith, bits-words S x some, ap (λ (n : ℕ). n * wideOf S x) (word-words S x word)) in
+    rw (part-at t (offOf S x + 0 * wideOf S x) (wideOf S x) j l, part-at m (offOf S x + 0 * wideOf S x) (wideOf S x) j l, e) (same j q)
+
+module _ (S : Source) (clear : tableFault (S .table) (S .addrs) (S .word) ≡ Clear) where
+  module _ (m t : List ℕ) (k : ℕ) (is : Is (recipe S) k) where
+    cond-same : nodeOf S k .kind ≡ ITE → Same (recipe S) m t (firstOf S k) → conditionOf S t k ≡ conditionOf S m k
+    cond-same h same =
+        let n : Sound (S .table) (S .word) k = sound-of S clear k is in
+        let one : widthOf (S .table) (nodeOf S k .a) ≡ 1 = conditioned (n .sort) h in
+        word-same S m t (nodeOf S k .a) (n .operands .a-used (rw h)) (omega arith) same 0 (omega (arith, word-wide S (nodeOf S k .a) (omega arith)))
+
+    second-same : Same (recipe S) m t (firstOf S k) → secondOf S t k ≡ secondOf S m k
+    unfolding secondOf
+    second-same same = go (eqb (nodeOf S k .kind) ITE) refl
+      where
+        go : (b : Bool) → eqb (nodeOf S k .kind) ITE ≡ b
+            → pick (b && eqb (conditionOf S t k) 0) (nodeOf S k .c) (nodeOf S k .b) ≡ pick (b && eqb (conditionOf S m k) 0) (nodeOf S k .c) (nodeOf S k .b)
+        go true e = rw (cond-same (eqb-true (nodeOf S k .kind) ITE e) same)
+        go false e = refl
+
+    third-same : Same (recipe S) m t (firstOf S k) → thirdOf S t k ≡ thirdOf S m k
+    unfolding thirdOf
+    third-same same = go (eqb (nodeOf S k .kind) ITE) refl
+      where
+        go : (b : Bool) → eqb (nodeOf S k .kind) ITE ≡ b → pick (b && isKnown (conditionOf S t k)) 0 (nodeOf S k .c) ≡ pick (b && isKnown (conditionOf S m k)) 0 (nodeOf S k .c)
+        go true e = rw (cond-same (eqb-true (nodeOf S k .kind) ITE e) same)
+        go false e = refl
+
+    -- the divisor's bits are those that a division reads second
+    divisor-same : divides (nodeOf S k .kind) ≡ true → Same (recipe S) m t (secondOf S m k) → (j : ℕ) → j < wideOf S (nodeOf S k .b)
+        → getD (wordAt S t (nodeOf S k .b) 0) j 0 ≡ getD (wordAt S m (nodeOf S k .b) 0) j 0
+    divisor-same h same =
+        let n : Sound (S .table) (S .word) k = sound-of S clear k is in
+        let v : Even (nodeOf S k .width) (widthOf (S .table) (nodeOf S k .a)) (widthOf (S .table) (nodeOf S k .b)) = divided (n .sort) h in
+        let q : secondOf S m k ≡ nodeOf S k .b = second-else S m k (λ e. false≢true (rw e at h)) in
+        word-same S m t (nodeOf S k .b) (n .operands .b-used (divides-two (nodeOf S k .kind) h)) (omega (arith, v .word, v .right)) (rw q at same)
+
+    blocked-same : Same (recipe S) m t (secondOf S m k) → blockedOf S t k ≡ blockedOf S m k
+    unfolding blockedOf
+    blocked-same same = go (divides (nodeOf S k .kind)) refl
+      where
+        w : ℕ
+        w = wideOf S (nodeOf S k .b)
+
+        go : (b : Bool) → divides (nodeOf S k .kind) ≡ b
+            → (b && (allKnown w (wordAt S t (nodeOf S k .b) 0) && eqb (knownNumber w (wordAt S t (nodeOf S k .b) 0)) 0))
+            ≡ (b && (allKnown w (wordAt S m (nodeOf S k .b) 0) && eqb (knownNumber w (wordAt S m (nodeOf S k .b) 0)) 0))
+        go true e =
+            rw (
+              known-alike (wordAt S t (nodeOf S k .b) 0) (wordAt S m (nodeOf S k .b) 0) w (divisor-same e same),
+              number-alike (wordAt S t (nodeOf S k .b) 0) (wordAt S m (nodeOf S k .b) 0) w (divisor-same e same),
+            )
+        go false e = refl
+
+  pub shape : Shape (recipe S)
+  unfolding secondOf thirdOf
+  shape =
+      record {
+        none = no-bits S;
+        first = λ k is. sound-of S clear k is .operands .a;
+        second = λ m k is. by-pick (λ x. x < k) _ _ _ (λ _. sound-of S clear k is .operands .c) (λ _. sound-of S clear k is .operands .b);
+        third = λ m k is. by-pick (λ x. x < k) _ _ _ (λ _. omega (arith, is .low)) (λ _. sound-of S clear k is .operands .c);
+        second-same = second-same;
+        third-same = third-same;
+        blocked-same = blocked-same;
+        inside = λ k is. off-inside S k (is .low) (is .high);
+        apart = λ x y lt _. off-apart S x y lt;
+      }

@@ -1,0 +1,215 @@
+-- The step of a node, kind by kind: from the laws of its words, with its operands' bits taken out of the map.
+use mathlib.Core.Path.{_≡_, refl, ap, sym, _∙_}
+use mathlib.Core.List.{List}
+use mathlib.Core.Bool.{true, false}
+use Prim.Native.Nat.{ℕ, _+_, _-_, _*_, _≤_, _<_}
+use native.Mathlib.Omega.{arith}
+use lib.Dec.{eqb, leb}
+use lib.ListN.{length, getD}
+use borrow.Author.Tests.{eqb-true, le-leb, leb-true}
+use Rattle.loops.specs.Loop.{pick}
+use Rattle.loops.proofs.Loop.{by-pick, either}
+use Rattle.table.specs.declared.Fault.the-variants.{Clear}
+use Rattle.table.specs.Kind.{CONST, NOT, AND, EQ, ADD, ITE, SUB, ULT, MUL, usesA, usesB, usesC}
+use Rattle.table.specs.Node.{widthOf}
+use Rattle.table.specs.Sheet.{tableFault}
+use Rattle.table.proofs.Whole.{Sound, Even, Compared, within, fine}
+use Rattle.table.proofs.ceiling.ByKind.{top-not, top-and, top-eq, top-add, top-sub, top-ult, top-mul}
+use Rattle.digits.specs.Digits.{Below}
+use Rattle.netlist.specs.Net.{Net}
+use Rattle.gates.proofs.Laws.{grows-weaken}
+use Rattle.words.specs.Each.{Word}
+use Rattle.visits.specs.Flow.{Core}
+use Rattle.visits.specs.Claims.{Is, Under, Step}
+use Rattle.nodes.specs.Source.{Source, nodeOf, wordsOf, wideOf, offOf, totalOf, gatesOf, blockedOf, wordAt}
+use Rattle.nodes.specs.Own.{eachWord, plainWord, wordOwn}
+use Rattle.nodes.specs.Recipe.{recipe}
+use Rattle.nodes.proofs.Places.{Till, bits-words, off-inside, word-words, word-wide, sound-of, gates-of, word-below}
+use Rattle.nodes.proofs.ShapeLaws.{second-else, third-else}
+use Rattle.nodes.proofs.WordLaws.{WordMade, WordOwes, Reads, made-owes, each-step}
+use Rattle.nodes.proofs.KindLaws.{Both, Nothing, const-made, not-made, and-made, eq-made, ult-made, add-made, sub-made, mul-made}
+
+-- a word's width and its gates said otherwise
+pub made-as : {s : Net} {In : ℕ → Type 0} {y : Word} {v w c d : ℕ} → v ≡ w → c ≤ d → WordMade s In v c y → WordMade s In w d y
+made-as {s} {In} {y} {v} {w} {c} {d} e le h =
+    record {
+      grows = grows-weaken s (y .net) c d le (h .grows);
+      formed = λ rm i f. rw (← e) (h .formed rm i f);
+      known = λ i. rw (← e) (h .known i);
+    }
+
+-- no word is wider than 64
+pub wide-small : (S : Source) → tableFault (S .table) (S .addrs) (S .word) ≡ Clear → (x : ℕ) → wideOf S x ≤ 64
+unfolding wideOf
+wide-small S clear x =
+    by-pick (λ v. v ≤ 64) (eqb (widthOf (S .table) x) 0) (S .word) (widthOf (S .table) x)
+    (λ _. within (S .table) (S .addrs) (S .word) clear .4)
+    (λ _. fine (S .table) (S .addrs) (S .word) clear .narrow x)
+
+-- the operands' bits, where the node reads below b
+module _ (S : Source) (k : ℕ) (s : Core) (b : ℕ) (o : Reads S k s b) where
+  pub reads-a : 1 ≤ nodeOf S k .a → Under (recipe S) b (s .map) (nodeOf S k .a)
+  reads-a some = o .first (λ q. omega arith)
+
+  pub reads-b : (nodeOf S k .kind ≡ ITE → ⊥) → 1 ≤ nodeOf S k .b → Under (recipe S) b (s .map) (nodeOf S k .b)
+  reads-b ne some = let e = second-else S (s .map) k ne in rw e at (o .second (λ q. omega arith))
+
+  pub reads-c : (nodeOf S k .kind ≡ ITE → ⊥) → 1 ≤ nodeOf S k .c → Under (recipe S) b (s .map) (nodeOf S k .c)
+  reads-c ne some = let e = third-else S (s .map) k ne in rw e at (o .third (λ q. omega arith))
+
+pub two-one : (k : ℕ) → usesB k ≡ true → usesA k ≡ true
+two-one k h =
+    either (eqb k AND) (leb EQ k) (usesA k ≡ true)
+    (λ e. le-leb NOT k (omega (arith, eqb-true k AND e)))
+    (λ e. le-leb NOT k (omega (arith, leb-true EQ k e)))
+    h
+
+module _ (S : Source) (clear : tableFault (S .table) (S .addrs) (S .word) ≡ Clear) (k : ℕ) (is : Is (recipe S) k) (s : Core)
+    (mapped : length (s .map) ≡ totalOf S) (run : s .stop ≡ 0) (goes : blockedOf S (s .map) k ≡ false) where
+  pub node : Sound (S .table) (S .word) k
+  node = sound-of S clear k is
+
+  abbrev A : ℕ
+  A = nodeOf S k .a
+
+  abbrev B : ℕ
+  B = nodeOf S k .b
+
+  abbrev C : ℕ
+  C = nodeOf S k .c
+
+  pub fits : offOf S k + wordsOf S k * wideOf S k ≤ length (s .map)
+  fits = omega (arith, off-inside S k (is .low) (is .high), bits-words S k (is .low))
+
+  -- from the law of each word
+  pub by-words : (c : ℕ) (f : ℕ → Core → Word) → wordsOf S k * c ≤ gatesOf S k
+      → ((i : ℕ) (x : Core) → i < wordsOf S k → Till (offOf S k) (s .map) (x .map) → WordOwes S k s x c (f i x)) → Step (recipe S) k s (eachWord S k f s)
+  by-words c f top each = each-step S k c s f fits each (bits-words S k (is .low)) run goes top
+
+  -- a node that makes one word
+  pub one-word : 1 ≤ nodeOf S k .width → ((i : ℕ) (x : Core) → Till (offOf S k) (s .map) (x .map) → WordOwes S k s x (gatesOf S k) (wordOwn S k i x))
+      → Step (recipe S) k s (eachWord S k (wordOwn S k) s)
+  one-word word each =
+      by-words (gatesOf S k) (wordOwn S k) (let e : wordsOf S k * gatesOf S k ≡ 1 * gatesOf S k = ap (λ (n : ℕ). n * gatesOf S k) (word-words S k word) in omega arith)
+      (λ i x _ till. each i x till)
+
+  -- an operand that is a word
+  operand : (x b : ℕ) (m : List ℕ) → 1 ≤ x → x < k → 1 ≤ widthOf (S .table) x → Till (offOf S k) (s .map) m → Under (recipe S) b (s .map) x → Below b (wordAt S m x 0) (wideOf S x)
+  operand x b m some less word till u = word-below S x k b (s .map) m some less till u 0 (omega (arith, word-words S x word))
+
+  pub word-a : (b : ℕ) (m : List ℕ) → usesA (nodeOf S k .kind) ≡ true → 1 ≤ widthOf (S .table) A → Till (offOf S k) (s .map) m → Reads S k s b → Below b (wordAt S m A 0) (wideOf S A)
+  word-a b m u word till o = operand A b m (node .operands .a-used u) (node .operands .a) word till (reads-a S k s b o (node .operands .a-used u))
+
+  pub word-b : (b : ℕ) (m : List ℕ) → usesB (nodeOf S k .kind) ≡ true → (nodeOf S k .kind ≡ ITE → ⊥) → 1 ≤ widthOf (S .table) B → Till (offOf S k) (s .map) m → Reads S k s b
+      → Below b (wordAt S m B 0) (wideOf S B)
+  word-b b m u ne word till o = operand B b m (node .operands .b-used u) (node .operands .b) word till (reads-b S k s b o ne (node .operands .b-used u))
+
+  pub word-c : (b : ℕ) (m : List ℕ) → usesC (nodeOf S k .kind) ≡ true → (nodeOf S k .kind ≡ ITE → ⊥) → 1 ≤ widthOf (S .table) C → Till (offOf S k) (s .map) m → Reads S k s b
+      → Below b (wordAt S m C 0) (wideOf S C)
+  word-c b m u ne word till o = operand C b m (node .operands .c-used u) (node .operands .c) word till (reads-c S k s b o ne (node .operands .c-used u))
+
+  -- two words of one width
+  pub both-words : (b : ℕ) (m : List ℕ) → usesB (nodeOf S k .kind) ≡ true → (nodeOf S k .kind ≡ ITE → ⊥) → 1 ≤ widthOf (S .table) A → widthOf (S .table) B ≡ widthOf (S .table) A
+      → Till (offOf S k) (s .map) m → Reads S k s b → Both (wordAt S m A 0) (wordAt S m B 0) (wideOf S A) b
+  both-words b m u ne word same till o =
+      let e : wideOf S B ≡ wideOf S A = word-wide S B (omega arith) ∙ same ∙ sym (word-wide S A word) in
+      (word-a b m (two-one (nodeOf S k .kind) u) word till o, λ i l. word-b b m u ne (omega arith) till o i (omega arith))
+
+  module _ (i : ℕ) (x : Core) (till : Till (offOf S k) (s .map) (x .map)) where
+    abbrev Owes : Type 0
+    Owes = WordOwes S k s x (gatesOf S k) (wordOwn S k i x)
+
+    pub const-word : nodeOf S k .kind ≡ CONST → 1 ≤ nodeOf S k .width → Owes
+    unfolding wordOwn plainWord pick
+    const-word e word =
+        rw e
+        (made-owes {s = s} {In = Nothing}
+        (made-as (sym (word-wide S k word)) (omega arith) (const-made (x .net) (nodeOf S k .imm) (nodeOf S k .width) (omega (arith, node .narrow)))) (λ b o. refl))
+
+    abbrev X : List ℕ
+    X = wordAt S (x .map) A 0
+
+    abbrev Y : List ℕ
+    Y = wordAt S (x .map) B 0
+
+    abbrev Wide : ℕ
+    Wide = wideOf S A
+
+    -- the operands are as wide as the node
+    even-wide : Even (nodeOf S k .width) (widthOf (S .table) A) (widthOf (S .table) B) → Wide ≡ wideOf S k
+    even-wide v = word-wide S A (omega (arith, v .word, v .left)) ∙ v .left ∙ sym (word-wide S k (v .word))
+
+    pub not-word : nodeOf S k .kind ≡ NOT → 1 ≤ nodeOf S k .width → widthOf (S .table) A ≡ nodeOf S k .width → Owes
+    unfolding wordOwn plainWord pick
+    not-word e word same =
+        let w : Wide ≡ wideOf S k = word-wide S A (omega arith) ∙ same ∙ sym (word-wide S k word) in
+        let g : gatesOf S k ≡ nodeOf S k .width = gates-of S k (is .low) ∙ top-not _ _ (nodeOf S k) _ e in
+        rw e
+        (made-owes {s = s} {In = λ b. Below b X Wide} (made-as w (omega (arith, word-wide S A (omega arith))) (not-made (x .net) X Wide (omega (arith, wide-small S clear A))))
+        (λ b o. word-a b (x .map) (rw e) (omega arith) till o))
+
+    -- two words of the node's width
+    module _ (v : Even (nodeOf S k .width) (widthOf (S .table) A) (widthOf (S .table) B)) where
+      even-both : (b : ℕ) → usesB (nodeOf S k .kind) ≡ true → (nodeOf S k .kind ≡ ITE → ⊥) → Reads S k s b → Both X Y Wide b
+      even-both b u ne o = both-words b (x .map) u ne (omega (arith, v .word, v .left)) (v .right ∙ sym (v .left)) till o
+
+      wide-here : Wide ≡ nodeOf S k .width
+      wide-here = word-wide S A (omega (arith, v .word, v .left)) ∙ v .left
+
+      pub and-word : nodeOf S k .kind ≡ AND → Owes
+      unfolding wordOwn plainWord pick
+      and-word e =
+          let g : gatesOf S k ≡ nodeOf S k .width = gates-of S k (is .low) ∙ top-and _ _ (nodeOf S k) _ e in
+          rw e
+          (made-owes {s = s} {In = λ b. (i : ℕ) → i < Wide → (getD X i 0 < b) × (getD Y i 0 < b)}
+          (made-as (even-wide v) (omega (arith, wide-here)) (and-made (x .net) X Y Wide (omega (arith, wide-small S clear A))))
+          (λ b o. let q : Both X Y Wide b = even-both b (rw e) (λ z. omega arith) o in λ i l. (q .0 i l, q .1 i l)))
+
+      pub add-word : nodeOf S k .kind ≡ ADD → Owes
+      unfolding wordOwn plainWord pick
+      add-word e =
+          let g : gatesOf S k ≡ 3 * nodeOf S k .width = gates-of S k (is .low) ∙ top-add _ _ (nodeOf S k) _ e in
+          rw e
+          (made-owes {s = s} {In = Both X Y Wide} (made-as (even-wide v) (omega (arith, wide-here)) (add-made (x .net) X Y Wide (wide-small S clear A)))
+          (λ b o. even-both b (rw e) (λ z. omega arith) o))
+
+      pub sub-word : nodeOf S k .kind ≡ SUB → Owes
+      unfolding wordOwn plainWord pick
+      sub-word e =
+          let g : gatesOf S k ≡ 4 * nodeOf S k .width = gates-of S k (is .low) ∙ top-sub _ _ (nodeOf S k) _ e in
+          rw e
+          (made-owes {s = s} {In = Both X Y Wide} (made-as (even-wide v) (omega (arith, wide-here)) (sub-made (x .net) X Y Wide (wide-small S clear A)))
+          (λ b o. even-both b (rw e) (λ z. omega arith) o))
+
+      pub mul-word : nodeOf S k .kind ≡ MUL → Owes
+      unfolding wordOwn plainWord pick
+      mul-word e =
+          let g : gatesOf S k ≡ 2 * nodeOf S k .width * (nodeOf S k .width + 1) = gates-of S k (is .low) ∙ top-mul _ _ (nodeOf S k) _ e in
+          let c : 2 * Wide * (Wide + 1) ≡ 2 * nodeOf S k .width * (nodeOf S k .width + 1) = ap (λ (n : ℕ). 2 * n * (n + 1)) wide-here in
+          rw e
+          (made-owes {s = s} {In = Both X Y Wide} (made-as (even-wide v) (omega arith) (mul-made (x .net) X Y Wide (wide-small S clear A)))
+          (λ b o. even-both b (rw e) (λ z. omega arith) o))
+
+    -- one bit of two words of one width
+    module _ (v : Compared (nodeOf S k .width) (widthOf (S .table) A) (widthOf (S .table) B)) where
+      one-wide : 1 ≡ wideOf S k
+      one-wide = sym (v .one) ∙ sym (word-wide S k (omega (arith, v .one)))
+
+      of-one : Wide ≡ widthOf (S .table) A
+      of-one = word-wide S A (v .word)
+
+      pub eq-word : nodeOf S k .kind ≡ EQ → Owes
+      unfolding wordOwn plainWord pick
+      eq-word e =
+          let g : gatesOf S k ≡ 3 * widthOf (S .table) A - 1 = gates-of S k (is .low) ∙ top-eq _ _ (nodeOf S k) _ e in
+          rw e
+          (made-owes {s = s} {In = Both X Y Wide} (made-as one-wide (omega (arith, of-one)) (eq-made (x .net) X Y Wide (wide-small S clear A) (omega (arith, of-one, v .word))))
+          (λ b o. both-words b (x .map) (rw e) (λ z. omega arith) (v .word) (v .same) till o))
+
+      pub ult-word : nodeOf S k .kind ≡ ULT → Owes
+      unfolding wordOwn plainWord pick
+      ult-word e =
+          let g : gatesOf S k ≡ 4 * widthOf (S .table) A + 1 = gates-of S k (is .low) ∙ top-ult _ _ (nodeOf S k) _ e in
+          rw e
+          (made-owes {s = s} {In = Both X Y Wide} (made-as one-wide (omega (arith, of-one)) (ult-made (x .net) X Y Wide (wide-small S clear A)))
+          (λ b o. both-words b (x .map) (rw e) (λ z. omega arith) (v .word) (v .same) till o))

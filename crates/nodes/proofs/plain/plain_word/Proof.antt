@@ -1,0 +1,138 @@
+use mathlib.Core.Path.{refl, ap}
+use Prim.Native.Nat.{ℕ}
+use native.Mathlib.Omega.{arith}
+use Rattle.table.specs.Kind.{compares}
+use Rattle.table.proofs.ceiling.ByKind.{top-not, top-and, top-eq, top-add, top-sub, top-ult, top-mul}
+use Rattle.nodes.proofs.Paths.{blank-room, not-cost, and-cost, plain-not, plain-and, plain-eq, plain-add, plain-sub, plain-ult, plain-mul, plain-none, plain-mul-room}
+use borrow.Author.Needs.{needs}
+use Rattle.nodes.proofs.plain.plain_word.Statement.{statement}
+use Rattle.nodes.proofs.plain.plain_word.Tie as tie
+use Rattle.nodes.proofs.plain.plain_word.Reads as reads
+use Rattle.nodes.proofs.plain.plain_word.Lts as lts
+use Rattle.nodes.proofs.plain.add_word.Reads as add-word-reads
+use Rattle.nodes.proofs.plain.eq_word.Reads as eq-word-reads
+use Rattle.nodes.proofs.plain.sub_word.Reads as sub-word-reads
+use Rattle.nodes.proofs.plain.ult_word.Reads as ult-word-reads
+use Rattle.words.proofs.each.each_bit.Reads as each-bit-reads
+use Rattle.words.proofs.mul.mul_words.Reads as mul-words-reads
+
+each-bit-requires : tie.Need-each-bit-requires
+each-bit-requires c κs = omega (arith, blank-room _ (c .before .before .before .before .before .before .before .pre .1 .1 .4), not-cost (c .before .before .before .before .before .before .before .args .a .now) (c .before .before .before .before .before .before .before .args .v), top-not 0 0 (c .before .before .before .before .before .before .before .args .node) (c .before .before .before .before .before .before .before .args .v) (c .before .before .if1 .taken), c .before .before .before .before .before .before .before .pre .1 .0 .1 (ap compares (c .before .before .if1 .taken)))
+
+same-length : tie.Need-same-length
+same-length c = search needs
+
+same-length-2 : tie.Need-same-length-2
+same-length-2 c = search needs
+
+returns : tie.Need-returns
+returns c = plain-not _ _ _ _ _ _ _ (c .before .before .before .before .before .before .before .before .before .before .before .before .pre .1 .1 .4) (c .before .before .before .before .before .before .before .if1 .taken) (c .before .before .before .before .each-bit .ensures)
+
+each-bit-requires-2 : tie.Need-each-bit-requires-2
+each-bit-requires-2 c κs = omega (arith, blank-room _ (c .before .before .before .before .before .before .before .before .pre .1 .1 .4), and-cost (c .before .before .before .before .before .before .before .before .args .a .now) (c .before .before .before .before .before .before .before .before .args .b .now) (c .before .before .before .before .before .before .before .before .args .v), top-and 0 0 (c .before .before .before .before .before .before .before .before .args .node) (c .before .before .before .before .before .before .before .before .args .v) (c .before .before .if2 .taken), c .before .before .before .before .before .before .before .before .pre .1 .0 .1 (ap compares (c .before .before .if2 .taken)))
+
+same-length-3 : tie.Need-same-length-3
+same-length-3 c = search needs
+
+same-length-4 : tie.Need-same-length-4
+same-length-4 c = search needs
+
+returns-2 : tie.Need-returns-2
+returns-2 c = plain-and _ _ _ _ _ _ _ (c .before .before .before .before .before .before .before .before .before .before .before .before .before .pre .1 .1 .4) (c .before .before .before .before .before .before .before .if2 .taken) (c .before .before .before .before .each-bit2 .ensures)
+
+eq-word-requires : tie.Need-eq-word-requires
+eq-word-requires c κs = omega (arith, blank-room _ (c .before .before .before .before .before .before .before .before .before .pre .1 .1 .4), top-eq 0 0 (c .before .before .before .before .before .before .before .before .before .args .node) (c .before .before .before .before .before .before .before .before .before .args .v) (c .before .before .if3 .taken))
+
+same-length-5 : tie.Need-same-length-5
+same-length-5 c = search needs
+
+same-length-6 : tie.Need-same-length-6
+same-length-6 c = search needs
+
+returns-3 : tie.Need-returns-3
+returns-3 c = plain-eq _ _ _ _ _ _ _ (c .before .before .before .before .before .before .before .before .before .before .before .before .before .before .pre .1 .1 .4) (c .before .before .before .before .before .before .before .if3 .taken) (c .before .before .before .before .eq-word .ensures)
+
+add-word-requires : tie.Need-add-word-requires
+add-word-requires c κs = omega (arith, blank-room _ (c .before .before .before .before .before .before .before .before .before .before .pre .1 .1 .4), top-add 0 0 (c .before .before .before .before .before .before .before .before .before .before .args .node) (c .before .before .before .before .before .before .before .before .before .before .args .v) (c .before .before .if4 .taken), c .before .before .before .before .before .before .before .before .before .before .pre .1 .0 .1 (ap compares (c .before .before .if4 .taken)))
+
+same-length-7 : tie.Need-same-length-7
+same-length-7 c = search needs
+
+same-length-8 : tie.Need-same-length-8
+same-length-8 c = search needs
+
+returns-4 : tie.Need-returns-4
+returns-4 c = plain-add _ _ _ _ _ _ _ (c .before .before .before .before .before .before .before .before .before .before .before .before .before .before .before .pre .1 .1 .4) (c .before .before .before .before .before .before .before .if4 .taken) (c .before .before .before .before .add-word .ensures)
+
+sub-word-requires : tie.Need-sub-word-requires
+sub-word-requires c κs = omega (arith, blank-room _ (c .before .before .before .before .before .before .before .before .before .before .before .pre .1 .1 .4), top-sub 0 0 (c .before .before .before .before .before .before .before .before .before .before .before .args .node) (c .before .before .before .before .before .before .before .before .before .before .before .args .v) (c .before .before .if5 .taken), c .before .before .before .before .before .before .before .before .before .before .before .pre .1 .0 .1 (ap compares (c .before .before .if5 .taken)))
+
+same-length-9 : tie.Need-same-length-9
+same-length-9 c = search needs
+
+same-length-10 : tie.Need-same-length-10
+same-length-10 c = search needs
+
+returns-5 : tie.Need-returns-5
+returns-5 c = plain-sub _ _ _ _ _ _ _ (c .before .before .before .before .before .before .before .before .before .before .before .before .before .before .before .before .pre .1 .1 .4) (c .before .before .before .before .before .before .before .if5 .taken) (c .before .before .before .before .sub-word .ensures)
+
+ult-word-requires : tie.Need-ult-word-requires
+ult-word-requires c κs = omega (arith, blank-room _ (c .before .before .before .before .before .before .before .before .before .before .before .before .pre .1 .1 .4), top-ult 0 0 (c .before .before .before .before .before .before .before .before .before .before .before .before .args .node) (c .before .before .before .before .before .before .before .before .before .before .before .before .args .v) (c .before .before .if6 .taken))
+
+same-length-11 : tie.Need-same-length-11
+same-length-11 c = search needs
+
+same-length-12 : tie.Need-same-length-12
+same-length-12 c = search needs
+
+returns-6 : tie.Need-returns-6
+returns-6 c = plain-ult _ _ _ _ _ _ _ (c .before .before .before .before .before .before .before .before .before .before .before .before .before .before .before .before .before .pre .1 .1 .4) (c .before .before .before .before .before .before .before .if6 .taken) (c .before .before .before .before .ult-word .ensures)
+
+mul-words-requires : tie.Need-mul-words-requires
+mul-words-requires c κs = omega (arith, blank-room _ (c .before .before .before .before .before .before .before .before .before .before .before .before .before .pre .1 .1 .4), plain-mul-room (c .before .before .before .before .before .before .before .before .before .before .before .before .before .args .node) (c .before .before .before .before .before .before .before .before .before .before .before .before .before .args .v) (c .before .before .if7 .taken) (c .before .before .before .before .before .before .before .before .before .before .before .before .before .pre .1 .0 .1 (ap compares (c .before .before .if7 .taken))))
+
+same-length-13 : tie.Need-same-length-13
+same-length-13 c = search needs
+
+same-length-14 : tie.Need-same-length-14
+same-length-14 c = search needs
+
+returns-7 : tie.Need-returns-7
+returns-7 c = plain-mul _ _ _ _ _ _ _ (c .before .before .before .before .before .before .before .before .before .before .before .before .before .before .before .before .before .before .pre .1 .1 .4) (c .before .before .before .before .before .before .before .if7 .taken) (c .before .before .before .before .mul-words .ensures)
+
+returns-8 : tie.Need-returns-8
+returns-8 c = plain-none _ _ _ _ _ _ _ (c .before .before .before .before .before .before .before .before .before .before .before .pre .1 .1 .4) (c .before .before .before .before .before .before .before .before .before .before .before .pre .1 .0 .0) (c .before .before .before .before .before .before .if1 .left) (c .before .before .before .before .before .if2 .left) (c .before .before .before .before .if3 .left) (c .before .before .before .if4 .left) (c .before .before .if5 .left) (c .before .if6 .left) (c .if7 .left) refl
+
+pub plain-word-spec : {M : Type 1} → statement M
+plain-word-spec =
+    tie.close
+    (tie.spec
+    each-bit-requires
+    same-length
+    same-length-2
+    returns
+    each-bit-requires-2
+    same-length-3
+    same-length-4
+    returns-2
+    eq-word-requires
+    same-length-5
+    same-length-6
+    returns-3
+    add-word-requires
+    same-length-7
+    same-length-8
+    returns-4
+    sub-word-requires
+    same-length-9
+    same-length-10
+    returns-5
+    ult-word-requires
+    same-length-11
+    same-length-12
+    returns-6
+    mul-words-requires
+    same-length-13
+    same-length-14
+    returns-7
+    returns-8)

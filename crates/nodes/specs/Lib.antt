@@ -1,0 +1,6 @@
+pub mod Source
+pub mod Own
+pub mod Place
+pub mod Recipe
+pub mod Meaning
+pub mod Asked

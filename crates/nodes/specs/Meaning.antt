@@ -1,0 +1,45 @@
+-- What a table means under one choice of the given words: the word values that the word evaluator leaves, as digits.
+use mathlib.Core.List.{List}
+use mathlib.Core.Bool.{Bool, _&&_}
+use Prim.Native.Nat.{ℕ, _+_, _/_, _%_}
+use lib.Dec.{eqb}
+use lib.ListN.{getD}
+use Rattle.table.specs.declared.Node.{Node}
+use Rattle.table.specs.Kind.{divides}
+use Rattle.values.specs.Value.{divWord, remWord}
+use Rattle.values.specs.Eval.{offset}
+use Rattle.digits.specs.Digits.{digit}
+use Rattle.visits.specs.Claims.{Meaning}
+use Rattle.nodes.specs.Source.{Source, nodeOf, wideOf}
+
+-- where node k's words begin among the evaluator's slots, and word i of node k there
+abbrev pub slotFrom : Source → ℕ → ℕ
+slotFrom S k = offset (S .table) (S .addrs) k
+
+abbrev pub slotOf : Source → List ℕ → ℕ → ℕ → ℕ
+slotOf S x k i = getD x (slotFrom S k + i) 0
+
+-- digit j of a number
+abbrev pub isOne : ℕ → ℕ → Bool
+isOne a j = eqb (digit a j) 1
+
+-- lowest bit first, the words of a memory in address-list order
+unfoldable pub valueOf : Source → List ℕ → ℕ → ℕ → Bool
+valueOf S x k j = isOne (slotOf S x k (j / wideOf S k)) (j % wideOf S k)
+
+-- the dividend and the divisor of a division k
+abbrev pub dividend : Source → List ℕ → ℕ → ℕ
+dividend S x k = slotOf S x (nodeOf S k .a) 0
+
+abbrev pub divisor : Source → List ℕ → ℕ → ℕ
+divisor S x k = slotOf S x (nodeOf S k .b) 0
+
+-- the right quotient and remainder of a division are the values of divu and of rem
+abbrev pub meaning : Source → List ℕ → Meaning
+meaning S x =
+    record {
+      value = valueOf S x;
+      quotient = λ k. isOne (divWord (nodeOf S k .width) (dividend S x k) (divisor S x k));
+      remainder = λ k. isOne (remWord (dividend S x k) (divisor S x k));
+      byZero = λ k. divides (nodeOf S k .kind) && eqb (divisor S x k) 0;
+    }

@@ -1,0 +1,135 @@
+-- A node's own gates and bits, kind by kind: document 01's recipe over the bit map.
+use mathlib.Core.List.{List, [], _∷_}
+use mathlib.Core.Bool.{Bool, true, false, _&&_, _||_}
+use Prim.Native.Nat.{ℕ, _+_, _*_}
+use lib.Dec.{eqb}
+use lib.ListN.{getD, set, length, take, drop}
+use Rattle.loops.specs.Loop.{pick, iter}
+use Rattle.table.specs.declared.Node.{Node}
+use Rattle.table.specs.Kind.{CONST, STATE, NOT, BAD, AND, EXT, EQ, ADD, ITE, SUB, ULT, MUL, DIVU, READ, WRITE, divides}
+use Rattle.table.specs.Node.{given}
+use Rattle.netlist.specs.Net.{Net}
+use Rattle.netlist.specs.Bit.{isKnown}
+use Rattle.gates.specs.Made.{MadeBit, kept, added, gateInputBit}
+use Rattle.digits.specs.Digits.{putDigits}
+use Rattle.words.specs.declared.each.Bitwise.the-variants as op
+use Rattle.words.specs.Num.{blank}
+use Rattle.words.specs.Each.{Word, eachBit, putBits}
+use Rattle.words.specs.Add.{Chain, addWords}
+use Rattle.words.specs.Sub.{subWords, ultWords, widened}
+use Rattle.words.specs.Eq.{eqWords}
+use Rattle.words.specs.Mul.{mulWords}
+use Rattle.memory.specs.Read.{readWords}
+use Rattle.memory.specs.Write.{writeWords}
+use Rattle.division.specs.Constraint.{consOf}
+use Rattle.division.specs.Rows.{Checked}
+use Rattle.division.specs.Divide.{divideWords}
+use Rattle.visits.specs.Flow.{Core}
+use Rattle.visits.specs.Stored.{stored}
+use Rattle.nodes.specs.Source.{Source, listed, nodeOf, wordsOf, wideOf, bitsOf, offOf, wordAt, allAt, conditionOf, secondOf, blockedOf}
+
+-- a word over a blank, and the net unchanged
+abbrev pub asIs : Net → List ℕ → Word
+asIs s out = record { net = s; out = out }
+
+abbrev pub fresh : Net → Word
+fresh s = asIs s blank
+
+abbrev pub ofChain : Chain → Word
+ofChain c = asIs (c .net) (c .out)
+
+abbrev pub ofBit : MadeBit → Word
+ofBit m = asIs (m .net) (set blank 0 (m .bit))
+
+-- word i of node k is made: it goes to its place in the map
+unfoldable pub wordStep : Source → ℕ → (ℕ → Core → Word) → ℕ → Core → Core
+wordStep S k f i s = stored (offOf S k + i * wideOf S k) (wideOf S k) s (f i s .net) (f i s .out)
+
+abbrev pub eachWord : Source → ℕ → (ℕ → Core → Word) → Core → Core
+eachWord S k f s = iter (wordsOf S k) (wordStep S k f) s
+
+-- an input or uninitialised state makes one InputBit a bit
+unfoldable pub inputStep : ℕ → ℕ → ℕ → Word → Word
+inputStep k from j x =
+    let m : MadeBit = added (x .net) (gateInputBit k (from + j)) in
+    record { net = m .net; out = set (x .out) j (m .bit) }
+
+unfoldable pub inputWord : Source → ℕ → ℕ → Core → Word
+inputWord S k i s = iter (wideOf S k) (inputStep k (i * wideOf S k)) (fresh (s .net))
+
+-- an initialised state, a bad and an ext share their operand's bits; above them stands known false
+unfoldable pub shareWord : Source → ℕ → ℕ → Core → Word
+shareWord S x i s = asIs (s .net) (widened (wideOf S x) (wordAt S (s .map) x i))
+
+-- a choice by an unknown condition
+unfoldable pub chooseWord : Source → ℕ → ℕ → Core → Word
+chooseWord S k i s =
+    eachBit (op.Choose (conditionOf S (s .map) k)) (wordAt S (s .map) (nodeOf S k .b) i) (wordAt S (s .map) (nodeOf S k .c) i) (wideOf S k) (fresh (s .net))
+
+-- a read
+unfoldable pub readWord : Source → ℕ → ℕ → Core → Word
+readWord S k i s =
+    readWords (listed S) (S .word) (S .addrs) (allAt S (s .map) (nodeOf S k .a)) (wordAt S (s .map) (nodeOf S k .b) 0) (fresh (s .net))
+
+-- the other words: over the operands' bits A and B, which are v wide
+unfoldable pub plainWord : Node → ℕ → List ℕ → List ℕ → Net → Word
+plainWord d v A B s =
+    pick (eqb (d .kind) CONST) (asIs s (putDigits (d .imm) (d .width) blank))
+    (pick (eqb (d .kind) NOT) (eachBit op.Not A A v (fresh s))
+    (pick (eqb (d .kind) AND) (eachBit op.And A B v (fresh s))
+    (pick (eqb (d .kind) EQ) (ofBit (eqWords v A B s))
+    (pick (eqb (d .kind) ADD) (ofChain (addWords v A B (record { net = s; carry = 0; out = blank })))
+    (pick (eqb (d .kind) SUB) (ofChain (subWords v A B s blank))
+    (pick (eqb (d .kind) ULT) (ofBit (ultWords v A B s))
+    (pick (eqb (d .kind) MUL) (mulWords v A B (fresh s))
+    (fresh s))))))))
+
+unfoldable pub wordOwn : Source → ℕ → ℕ → Core → Word
+wordOwn S k i s =
+    plainWord (nodeOf S k) (wideOf S (nodeOf S k .a)) (wordAt S (s .map) (nodeOf S k .a) 0) (wordAt S (s .map) (nodeOf S k .b) 0) (s .net)
+
+-- a write: the old memory is shared, and then written
+unfoldable pub writeOwn : Source → ℕ → Core → Core
+writeOwn S k s =
+    let t : Core = eachWord S k (shareWord S (nodeOf S k .a)) s in
+    let x : Word =
+    writeWords (listed S) (S .word) (S .addrs) (wordAt S (s .map) (nodeOf S k .b) 0) (wordAt S (s .map) (nodeOf S k .c) 0)
+    (record { net = t .net; out = allAt S (t .map) k }) in
+    stored (offOf S k) (bitsOf S k) t (x .net) (x .out)
+
+-- a division records its constraints
+unfoldable pub divideOwn : Source → ℕ → Core → Core
+divideOwn S k s =
+    let x : Checked =
+    divideWords (eqb (nodeOf S k .kind) DIVU) (wideOf S k) k (wordAt S (s .map) (nodeOf S k .a) 0) (wordAt S (s .map) (nodeOf S k .b) 0)
+    (record { net = s .net; cons = consOf (s .cons) (s .nc); out = blank }) in
+    record { net = x .net; cons = x .cons .list; nc = x .cons .m; map = putBits (offOf S k) (x .out) (wideOf S k) (s .map); stop = s .stop }
+
+-- an ite with a known condition shares the chosen side
+unfoldable pub iteOwn : Source → ℕ → Core → Core
+iteOwn S k s =
+    pick (isKnown (conditionOf S (s .map) k)) (eachWord S k (shareWord S (secondOf S (s .map) k)) s)
+    (eachWord S k (chooseWord S k) s)
+
+-- a kind that shares its operand's bits: an initialised state, a bad, an ext
+abbrev pub shares : Node → Bool
+shares d = eqb (d .kind) STATE || eqb (d .kind) BAD || eqb (d .kind) EXT
+
+-- the own step of node k, by its kind
+unfoldable pub madeBy : Source → ℕ → Core → Core
+madeBy S k s =
+    pick (given (nodeOf S k)) (eachWord S k (inputWord S k) s)
+    (pick (shares (nodeOf S k)) (eachWord S k (shareWord S (nodeOf S k .a)) s)
+    (pick (eqb (nodeOf S k .kind) ITE) (iteOwn S k s)
+    (pick (divides (nodeOf S k .kind)) (divideOwn S k s)
+    (pick (eqb (nodeOf S k .kind) READ) (eachWord S k (readWord S k) s)
+    (pick (eqb (nodeOf S k .kind) WRITE) (writeOwn S k s)
+    (eachWord S k (wordOwn S k) s))))))
+
+-- nothing, once the lowering has stopped; it stops where a divisor is known to be zero
+unfoldable pub ownStep : Source → ℕ → Core → Core
+ownStep S k s =
+    pick (eqb (s .stop) 0)
+    (pick (blockedOf S (s .map) k) (record { net = s .net; cons = s .cons; nc = s .nc; map = s .map; stop = k })
+    (madeBy S k s))
+    s
