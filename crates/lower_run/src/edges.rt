@@ -2,7 +2,6 @@
 ghost use Prim.Native.Nat.{_+_, _*_, _≤_, _<_};
 ghost use lib.ListN.{length};
 ghost use Rattle.netlist.specs.Record.{Room};
-use crate::judge::Outcome;
 use crate::judge::done;
 use crate::judge::judge;
 use crate::judge::lowered;
@@ -272,56 +271,64 @@ fn wide_division(table: &mut [u64])
     put_node(table, 5, BAD, 1, 4, 0, 0);
 }
 
-// Lowered with so much lent.
-fn divided(gates: &mut [u32], constraints: &mut [u32], map: &mut [u32]) -> Outcome {
+// The sums are 11362 gates (2 constants, 64 and 64 of the inputs, 11041 of the divu, 191 of the eq), 2146 constraints and 194 bits: so much is enough.
+// Of its 11041 the divu makes 8706, since constants fold: 2w² + 8w + 2 at width w. Of its constraints it records all.
+fn division() -> bool {
     let addrs = [0u64; 0];
     let mut table = [0u64; 30];
     wide_division(&mut table);
-    lowered(&table, &addrs, 64, gates, constraints, map)
-}
-
-// The sums are 11362 gates (2 constants, 64 and 64 of the inputs, 11041 of the divu, 191 of the eq), 2146 constraints and 194 bits: so much is enough.
-// Of its 11041 the divu makes 8706, since constants fold: 2w² + 8w + 2 at width w. A constraint is recorded even if it is known.
-fn division() -> bool {
     let mut gates = [0u32; 45448];
     let mut constraints = [0u32; 4292];
     let mut map = [0u32; 194];
-    let found = divided(&mut gates, &mut constraints, &mut map);
+    let found = lowered(&table, &addrs, 64, &mut gates, &mut constraints, &mut map);
     same_outcome(found, done(9027, 2146)) & unused(&gates, 36108, 0)
 }
 
-// One number less of gates, of the map or of constraints is not.
+// Where a number is missing it is refused, and nothing is changed.
+fn division_refused(
+    refusal: u64,
+    gates: &mut [u32],
+    constraints: &mut [u32],
+    map: &mut [u32],
+) -> bool {
+    let addrs = [0u64; 0];
+    let none = [0u32; 0];
+    let mut table = [0u64; 30];
+    wide_division(&mut table);
+    judge(
+        &table,
+        &addrs,
+        64,
+        gates,
+        constraints,
+        map,
+        refused(refusal, 0),
+        &none,
+        &none,
+        &none,
+    )
+}
+
+// Of the gates, the map and the constraints: the first of them says which refusal.
 fn no_gate_room() -> bool {
     let mut gates = [0u32; 45447];
-    let mut constraints = [0u32; 4292];
-    let mut map = [0u32; 194];
-    let found = divided(&mut gates, &mut constraints, &mut map);
-    same_outcome(found, refused(7, 0))
-        & unused(&gates, 0, 7)
-        & unused(&constraints, 0, 7)
-        & unused(&map, 0, 7)
+    let mut constraints = [0u32; 4291];
+    let mut map = [0u32; 193];
+    division_refused(7, &mut gates, &mut constraints, &mut map)
 }
 
 fn no_bit_room() -> bool {
     let mut gates = [0u32; 45448];
     let mut constraints = [0u32; 4291];
     let mut map = [0u32; 193];
-    let found = divided(&mut gates, &mut constraints, &mut map);
-    same_outcome(found, refused(8, 0))
-        & unused(&gates, 0, 8)
-        & unused(&constraints, 0, 8)
-        & unused(&map, 0, 8)
+    division_refused(8, &mut gates, &mut constraints, &mut map)
 }
 
 fn no_constraint_room() -> bool {
     let mut gates = [0u32; 45448];
     let mut constraints = [0u32; 4291];
     let mut map = [0u32; 194];
-    let found = divided(&mut gates, &mut constraints, &mut map);
-    same_outcome(found, refused(9, 0))
-        & unused(&gates, 0, 9)
-        & unused(&constraints, 0, 9)
-        & unused(&map, 0, 9)
+    division_refused(9, &mut gates, &mut constraints, &mut map)
 }
 
 // An edge by its number.

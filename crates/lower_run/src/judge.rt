@@ -32,7 +32,7 @@ pub fn refused(refusal: u64, node: u64) -> Outcome {
     }
 }
 
-fn outcome(answer: Answer) -> Outcome {
+fn in_numbers(answer: Answer) -> Outcome {
     match answer {
         Answer::Done { gates, constraints } => done(gates as u64, constraints as u64),
         _ => refused(number(answer), node(answer) as u64),
@@ -72,7 +72,7 @@ pub fn lowered(
     prepare(constraints);
     prepare(map);
     let answer = lower(table, addrs, word, gates, constraints, map);
-    outcome(answer)
+    in_numbers(answer)
 }
 
 // What a place holds after that is not used: refusal 10 leaves 0, any other answer what stood there.
