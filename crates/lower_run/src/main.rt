@@ -202,7 +202,7 @@ fn run_all(
 }
 
 fn main() {
-    let mut text = [0u8; 524288];
+    let mut text = [0u8; 278528];
     let n = io::read_full(STDIN_FILENO, &mut text);
     let mut table = [0u64; 4096];
     let mut addrs = [0u64; 128];
