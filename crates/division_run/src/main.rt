@@ -10,6 +10,8 @@ use division::constraint::Constraint;
 use division::constraint::Counts;
 use division::divide;
 use gates::made::At;
+use libc::STDERR_FILENO;
+use libc::STDOUT_FILENO;
 use netlist::check::is_done;
 use netlist::eval::eval_gates;
 use netlist::record;
@@ -282,7 +284,6 @@ fn prepare(
 
 // One operation at one width, tried.
 fn attempt(
-    name: &[u8],
     quotient: bool,
     w: usize,
     gates: &mut [u32],
@@ -291,19 +292,18 @@ fn attempt(
     given: &mut [u32],
     free: &mut [u32],
     out: &mut [u32],
-)
+) -> Tried
     requires { ⌜ Room (now gates) 69 × (conUsed 11 ≤ length (now cons)) ⌝ }
     requires { ⌜ Narrow w × (length (now given) ≡ 2 * w) × (length (now free) ≡ 2 * w) × (w ≤ length (now out)) ⌝ }
 {
     let end = prepare(gates, cons, quotient, w, given, free, out);
     let n = end.at.n;
     let list = record::part(gates, n);
-    let t = count(list, cons, end.m, values, given, free, out, quotient, w);
-    tally::total(name, t.solutions, b"solutions", t.differ);
+    count(list, cons, end.m, values, given, free, out, quotient, w)
 }
 
-// The same with lists of its own. There is room for 69 gates: at most 8 stand before the operation, and it makes no more than 61.
-fn run(name: &[u8], quotient: bool, w: usize)
+// The same with lists of its own, and its line. There is room for 69 gates: at most 8 stand before the operation, and it makes no more than 61.
+fn run(name: &[u8], quotient: bool, w: usize, page: &mut [u8], place: usize) -> usize
     requires { ⌜ Narrow w ⌝ }
 {
     let mut gates = [0u32; 276];
@@ -313,8 +313,7 @@ fn run(name: &[u8], quotient: bool, w: usize)
     let mut free = [0u32; 6];
     let mut out = [0u32; 3];
     let bits = 2 * w;
-    attempt(
-        name,
+    let t = attempt(
         quotient,
         w,
         &mut gates,
@@ -324,13 +323,24 @@ fn run(name: &[u8], quotient: bool, w: usize)
         &mut free[0..bits],
         &mut out[0..w],
     );
+    tally::total(page, place, name, t.solutions, b"solutions", t.differ)
 }
 
+// Each operation's line at each width.
+fn lines(page: &mut [u8]) -> usize {
+    let a = run(b"divu of 1 bit", true, 1, page, 0);
+    let b = run(b"divu of 2 bits", true, 2, page, a);
+    let c = run(b"divu of 3 bits", true, 3, page, b);
+    let d = run(b"rem of 1 bit", false, 1, page, c);
+    let e = run(b"rem of 2 bits", false, 2, page, d);
+    run(b"rem of 3 bits", false, 3, page, e)
+}
+
+// All lines go out in one write. A program ends with no status of its own, so that a write that fails is told on standard error.
 fn main() {
-    run(b"divu of 1 bit", true, 1);
-    run(b"divu of 2 bits", true, 2);
-    run(b"divu of 3 bits", true, 3);
-    run(b"rem of 1 bit", false, 1);
-    run(b"rem of 2 bits", false, 2);
-    run(b"rem of 3 bits", false, 3);
+    let mut page = io::buffer();
+    let end = lines(&mut page);
+    if !io::write_all(STDOUT_FILENO, tally::said(&page, end)) {
+        io::write_all(STDERR_FILENO, b"not written\n");
+    }
 }

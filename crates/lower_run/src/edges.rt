@@ -1,5 +1,5 @@
 // The edges: tables and answers that are made here, and not read. None of them lists an address.
-ghost use Prim.Native.Nat.{_+_, _*_, _≤_, _<_};
+ghost use Prim.Native.Nat.{_+_, _*_, _≤_};
 ghost use lib.ListN.{length};
 ghost use Rattle.netlist.specs.Record.{Room};
 use crate::judge::done;
@@ -347,15 +347,17 @@ fn edge(i: u64) -> bool {
     }
 }
 
-pub fn run_edges(name: &[u8]) {
+// All edges: a line for each that differs, and their count.
+pub fn run_edges(name: &[u8], page: &mut [u8], place: usize) -> usize {
     let mut differ = 0;
+    let mut end = place;
     let mut i = 0;
     while i < 10 {
         i += 1;
         if !edge(i) {
             differ += 1;
-            tally::report(b"edge", i);
+            end = tally::report(page, end, b"edge", i);
         }
     }
-    tally::total(name, 10, b"edges", differ);
+    tally::total(page, end, name, 10, b"edges", differ)
 }

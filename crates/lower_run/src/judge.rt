@@ -1,6 +1,4 @@
 // A table is lowered into buffers that were filled beforehand, and the answer and every place of them is held against what is wanted.
-ghost use Prim.Native.Nat.{_≤_};
-ghost use lib.ListN.{length};
 use lowering::lower::Answer;
 use lowering::lower::lower;
 use lowering::lower::node;

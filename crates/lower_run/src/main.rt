@@ -1,5 +1,5 @@
 // Runs the lowering on the cases of standard input (tests/convert.py says how they are written) and on the edges, and says which differ.
-ghost use Prim.Native.Nat.{_+_, _≤_, _<_};
+ghost use Prim.Native.Nat.{_≤_};
 ghost use lib.ListN.{length};
 use cases::fill::list_u32;
 use cases::fill::list_u64;
@@ -7,7 +7,9 @@ use cases::next_count;
 use cases::next_number;
 use judge::Outcome;
 use judge::judge;
+use libc::STDERR_FILENO;
 use libc::STDIN_FILENO;
+use libc::STDOUT_FILENO;
 
 mod edges; // tables and answers that are made, and not read
 mod judge; // one lowering, held against what is wanted
@@ -161,6 +163,7 @@ fn run_case(
     )
 }
 
+// All cases: a line for each that differs, and their count.
 fn run_all(
     name: &[u8],
     text: &[u8],
@@ -172,11 +175,13 @@ fn run_all(
     used_gates: &mut [u32],
     used_constraints: &mut [u32],
     used_map: &mut [u32],
-) {
+    page: &mut [u8],
+) -> usize {
     let first = next_number(text, 0);
     let cases = first.value;
     let mut at = first.next;
     let mut differ = 0;
+    let mut end = 0;
     let mut i = 0;
     while i < cases {
         let verdict = run_case(
@@ -194,14 +199,15 @@ fn run_all(
         i += 1;
         if !verdict.same {
             differ += 1;
-            tally::report(name, i);
+            end = tally::report(page, end, name, i);
         }
         at = verdict.next;
     }
-    tally::summary(name, cases, differ);
+    tally::summary(page, end, name, cases, differ)
 }
 
-fn main() {
+// The cases of standard input.
+fn read_cases(page: &mut [u8]) -> usize {
     let mut text = [0u8; 278528];
     let n = io::read_full(STDIN_FILENO, &mut text);
     let mut table = [0u64; 4096];
@@ -223,6 +229,20 @@ fn main() {
         &mut used_gates,
         &mut used_constraints,
         &mut used_map,
-    );
-    edges::run_edges(b"lower");
+        page,
+    )
+}
+
+fn lines(page: &mut [u8]) -> usize {
+    let end = read_cases(page);
+    edges::run_edges(b"lower", page, end)
+}
+
+// All lines go out in one write. A program ends with no status of its own, so that a write that fails is told on standard error.
+fn main() {
+    let mut page = io::large_buffer();
+    let end = lines(&mut page);
+    if !io::write_all(STDOUT_FILENO, tally::said(&page, end)) {
+        io::write_all(STDERR_FILENO, b"not written\n");
+    }
 }

@@ -32,3 +32,8 @@ pub mod MemoryFacts
 pub mod DivideFacts
 pub mod OwnFacts
 pub mod VisitFacts
+pub mod FillLaws
+pub mod Caps
+pub mod RootFacts
+pub mod LowerFacts
+pub mod PromiseLaws

@@ -44,10 +44,10 @@ goes-less h =
     }
 
 -- after a visit there is as much room as before
-pub goes-visit : {S : Source} {o : List ℕ} {e f : ℕ} {s t : Low} (k : ℕ) → Goes S o e f s → k ≤ nodes (S .table) → Visits S k s t → Goes S o e f t
-goes-visit {S} {o} {e} {f} {s} {t} k h le v =
+pub goes-visited : {S : Source} {o : List ℕ} {e f : ℕ} {s t : Low} (k : ℕ) → Goes S o e f s → k ≤ nodes (S .table) → t ≡ visitTo (suc k) (recipe S) k s → Goes S o e f t
+goes-visited {S} {o} {e} {f} {s} {t} k h le v =
     let d : Sound (recipe S) s = record { mapped = h .mapped; nodes = h .marked } in
-    let l : Later (recipe S) k 0 0 s t = subst (λ (x : Low). Later (recipe S) k 0 0 s x) (sym (v (suc k) (omega arith))) (visit-later (shape S (h .clear)) (own-steps S (h .clear)) (suc k) k s d (omega arith)) in
+    let l : Later (recipe S) k 0 0 s t = subst (λ (x : Low). Later (recipe S) k 0 0 s x) (sym v) (visit-later (shape S (h .clear)) (own-steps S (h .clear)) (suc k) k s d (omega arith)) in
     record {
       clear = h .clear;
       offsets = h .offsets;
@@ -57,6 +57,9 @@ goes-visit {S} {o} {e} {f} {s} {t} k h le v =
       cap = omega (arith, h .cap, l .paid);
       asks = omega (arith, h .asks, l .consPaid, l .consLong);
     }
+
+goes-visit : {S : Source} {o : List ℕ} {e f : ℕ} {s t : Low} (k : ℕ) → Goes S o e f s → k ≤ nodes (S .table) → Visits S k s t → Goes S o e f t
+goes-visit k h le v = goes-visited k h le (v (suc k) (omega arith))
 
 -- a node that is marked has its own ceilings as room
 pub goes-mark : {S : Source} {o : List ℕ} {s : Low} (k : ℕ) → Goes S o 0 0 s → k ≤ nodes (S .table) → (getD (s .seen) k 0 ≡ 1 → ⊥)

@@ -145,7 +145,16 @@ pub fn lower_marked(
         return Answer::Table(f);
     }
     let mut offs = [0usize; 514];
-    lower_clear(table, addrs, word, &mut offs, gates, constraints, map, marks)
+    lower_clear(
+        table,
+        addrs,
+        word,
+        &mut offs,
+        gates,
+        constraints,
+        map,
+        marks,
+    )
 }
 
 // The lowering of any table into the lent buffers: gates of four numbers, constraints of two, and the bit map.

@@ -3,6 +3,8 @@ ghost use Prim.Native.Nat.{_≤_, _<_};
 ghost use Rattle.netlist.specs.Record.{Room};
 ghost use Rattle.memory_run.specs.Rooms.{Few, Six, Ten};
 use gates::made::At;
+use libc::STDERR_FILENO;
+use libc::STDOUT_FILENO;
 use memory::read::read_words;
 use memory::write::write_words;
 use netlist::check::is_done;
@@ -101,8 +103,8 @@ fn count(op: Op, gates: &[u32], given: &[u32], out: &[u32], values: &mut [u8]) -
     differ
 }
 
-// One operation, into a gate list of its own. There is room for 40 gates: 12 stand before it, and no operation makes more than 27.
-fn run(name: &[u8], op: Op) {
+// One operation, into a gate list of its own, and its line. There is room for 40 gates: 12 stand before it, and no operation makes more than 27.
+fn run(name: &[u8], op: Op, page: &mut [u8], place: usize) -> usize {
     let mut gates = [0u32; 160];
     let mut values = [0u8; 40];
     let mut given = [0u32; 10];
@@ -112,10 +114,20 @@ fn run(name: &[u8], op: Op) {
     let end = lower(op, &mut gates, at, &given, &mut out);
     let list = record::part(&gates, end.n);
     let differ = count(op, list, &given, &out, &mut values);
-    tally::total(name, 1024, b"inputs", differ);
+    tally::total(page, place, name, 1024, b"inputs", differ)
 }
 
+// Both operations' lines.
+fn lines(page: &mut [u8]) -> usize {
+    let read_end = run(b"read", Op::Read, page, 0);
+    run(b"write", Op::Write, page, read_end)
+}
+
+// All lines go out in one write. A program ends with no status of its own, so that a write that fails is told on standard error.
 fn main() {
-    run(b"read", Op::Read);
-    run(b"write", Op::Write);
+    let mut page = io::buffer();
+    let end = lines(&mut page);
+    if !io::write_all(STDOUT_FILENO, tally::said(&page, end)) {
+        io::write_all(STDERR_FILENO, b"not written\n");
+    }
 }

@@ -4,7 +4,9 @@ ghost use lib.ListN.{length};
 use cases::fill::list_u8;
 use cases::fill::list_u32;
 use cases::next_number;
+use libc::STDERR_FILENO;
 use libc::STDIN_FILENO;
+use libc::STDOUT_FILENO;
 use netlist::check::number;
 use netlist::check::place;
 use netlist::eval::eval_gates;
@@ -88,29 +90,55 @@ fn run_case(
     judge(text, value_list.next, &gates[..g], &mut values[..v], wanted)
 }
 
-fn run_all(name: &[u8], text: &[u8], gates: &mut [u32], values: &mut [u8], wanted: &mut [u8]) {
+// All cases: a line for each that differs, and their count.
+fn run_all(
+    name: &[u8],
+    text: &[u8],
+    gates: &mut [u32],
+    values: &mut [u8],
+    wanted: &mut [u8],
+    page: &mut [u8],
+) -> usize {
     let first = next_number(text, 0);
     let cases = first.value;
     let mut at = first.next;
     let mut differ = 0;
+    let mut end = 0;
     let mut i = 0;
     while i < cases {
         let verdict = run_case(text, at, gates, values, wanted);
         i += 1;
         if !verdict.same {
             differ += 1;
-            tally::report(name, i);
+            end = tally::report(page, end, name, i);
         }
         at = verdict.next;
     }
-    tally::summary(name, cases, differ);
+    tally::summary(page, end, name, cases, differ)
 }
 
-fn main() {
+// The cases of standard input.
+fn lines(page: &mut [u8]) -> usize {
     let mut text = [0u8; 262144];
     let n = io::read_full(STDIN_FILENO, &mut text);
     let mut gates = [0u32; 4096];
     let mut values = [0u8; 1024];
     let mut wanted = [0u8; 1024];
-    run_all(b"gates", &text[..n], &mut gates, &mut values, &mut wanted);
+    run_all(
+        b"gates",
+        &text[..n],
+        &mut gates,
+        &mut values,
+        &mut wanted,
+        page,
+    )
+}
+
+// All lines go out in one write. A program ends with no status of its own, so that a write that fails is told on standard error.
+fn main() {
+    let mut page = io::large_buffer();
+    let end = lines(&mut page);
+    if !io::write_all(STDOUT_FILENO, tally::said(&page, end)) {
+        io::write_all(STDERR_FILENO, b"not written\n");
+    }
 }

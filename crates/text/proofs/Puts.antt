@@ -84,9 +84,13 @@ module _ (l : List ℕ) (at n : ℕ) (k : List ℕ) (q : ℕ) where
   digits-more m p h d e zero g = absurd (omega arith)
   digits-more m p h d e (suc f) g = rw (le-ltb n 10 h, ← put-last (text l at) (digits f (n / 10)) (48 + n % 10), ← d f (omega arith)) e
 
-  pub number-put : (m : List ℕ) (p : ℕ) → text m p ≡ push (text l at) 9 → PutDigits m p n k q → text k q ≡ put (text l at) (9 ∷ decimal n)
-  unfolding put decimal
-  number-put m p e d = d (suc n) (omega arith) ∙ ap (λ (t : Text). put t (digits (suc n) n)) e
+  pub decimal-put : PutDigits l at n k q → text k q ≡ put (text l at) (decimal n)
+  unfolding decimal
+  decimal-put d = d (suc n) (omega arith)
+
+  pub number-put : (m : List ℕ) (p : ℕ) → text m p ≡ push (text l at) 9 → text k q ≡ put (text m p) (decimal n) → text k q ≡ put (text l at) (9 ∷ decimal n)
+  unfolding put
+  number-put m p e d = d ∙ ap (λ (t : Text). put t (decimal n)) e
 
 pub rest-put : (t u v : Text) (ns : List ℕ) → u ≡ put t (numbers ns) → v ≡ push u 10 → v ≡ put t (rest ns)
 unfolding rest

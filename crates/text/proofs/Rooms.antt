@@ -8,9 +8,10 @@ use native.Mathlib.Numerals.{add-one}
 use lib.Dec.{eqb}
 use lib.ListN.{length, getD, drop, length-append, length-take}
 use Rattle.loops.specs.Loop.{pick}
+use Rattle.netlist.specs.Record.{used}
 use Rattle.text.specs.Number.{decimal}
 use Rattle.text.specs.Line.{numbers, rest, line}
-use Rattle.text.specs.Write.{part, gateSize, constraintSize, gateName, bitsName, constraintName, doneName, refusedName, gateCount, constraintCount, gateLine, bitsLine, nextBits, nodeCount, constraintLine, doneLine, refusedLine, each, output, Offsets, outputRoom, refusedRoom}
+use Rattle.text.specs.Write.{part, constraintSize, gateName, bitsName, constraintName, doneName, refusedName, gateCount, constraintCount, gateLine, bitsLine, nextBits, nodeCount, constraintLine, doneLine, refusedLine, each, output, Offsets, outputRoom, refusedRoom}
 use Rattle.text.proofs.Elements.{Below, below-all, below-drop, below-take}
 use Rattle.text.proofs.Decimals.{decimal-length}
 
@@ -57,11 +58,11 @@ module _ (f : ℕ → List ℕ) (k : ℕ) where
       let m : length (f n) ≤ k = h n (omega arith) in
       rw (length-append (each n f) (f n)) (omega arith)
 
-gate-length : (gates : List ℕ) → Small gates → (i : ℕ) → i < 2 ^ 64 → length (gateLine gates i) ≤ 26 + 11 * gateSize
+gate-length : (gates : List ℕ) → Small gates → (i : ℕ) → i < 2 ^ 64 → length (gateLine gates i) ≤ 26 + 11 * used 1
 unfolding gateLine gateName
 gate-length gates s i h =
-    let m = more-length gateName i (part (gateSize * i) (gateSize * i + gateSize) gates) h in
-    let r = record-length gateName gates (gateSize * i) (gateSize * i + gateSize) s in
+    let m = more-length gateName i (part (used i) (used (i + 1)) gates) h in
+    let r = record-length gateName gates (used i) (used (i + 1)) s in
     omega arith
 
 constraint-length : (cs : List ℕ) → Small cs → (i : ℕ) → length (constraintLine cs i) ≤ 11 + 11 * constraintSize
@@ -127,7 +128,7 @@ pub output-length : (gates map offsets marks cs : List ℕ) → ((i : ℕ) → g
     → length (output gates map offsets marks cs) ≤ outputRoom (gateCount gates) (nodeCount marks) (length map) (constraintCount cs)
 unfolding output outputRoom
 output-length gates map offsets marks cs g m k a b c o =
-    let e₁ = each-length (gateLine gates) (26 + 11 * gateSize) (gateCount gates) (λ i h. gate-length gates (below-all (2 ^ 32) gates g) i (omega arith)) in
+    let e₁ = each-length (gateLine gates) (26 + 11 * used 1) (gateCount gates) (λ i h. gate-length gates (below-all (2 ^ 32) gates g) i (omega arith)) in
     let e₂ = all-bits map offsets marks (below-all (2 ^ 32) map m) (length marks) b o in
     let e₃ = each-length (constraintLine cs) (11 + 11 * constraintSize) (constraintCount cs) (λ i h. constraint-length cs (below-all (2 ^ 32) cs k) i) in
     let e₄ = done-length (gateCount gates) (constraintCount cs) (omega arith) (omega arith) in

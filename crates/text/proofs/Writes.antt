@@ -8,10 +8,11 @@ use lib.ListN.{length, getD}
 use lib.Seq.{sets, sets-eq}
 use borrow.Author.Tests.{eq-eqb, ne-eqb}
 use Rattle.loops.specs.Loop.{pick}
+use Rattle.netlist.specs.Record.{used}
 use Rattle.text.specs.Line.{line}
 use Rattle.text.specs.Put.{Text, put}
 use Rattle.text.specs.Put.Text.{text}
-use Rattle.text.specs.Write.{part, bitsName, gateCount, constraintCount, gateLine, bitsLine, nextBits, nodeCount, constraintLine, doneLine, each, output, Written}
+use Rattle.text.specs.Write.{part, gateName, bitsName, gateCount, constraintCount, gateLine, bitsLine, nextBits, nodeCount, constraintLine, doneLine, each, output, Written}
 use Rattle.text.proofs.Puts.{put-append, put-room}
 
 module _ (f : ℕ → List ℕ) (t : Text) where
@@ -25,6 +26,10 @@ module _ (f : ℕ → List ℕ) (t : Text) where
 
   pub each-done : (u : Text) (i n : ℕ) → n ≤ i → i ≤ n → u ≡ put t (each i f) → u ≡ put t (each n f)
   each-done u i n h k e = let q : n ≡ i = omega arith in rw q e
+
+pub gate-put : (gates : List ℕ) (i o e : ℕ) (t u : Text) → o ≡ used i → e ≡ used (i + 1) → u ≡ put t (line gateName (i ∷ part o e gates)) → u ≡ put t (gateLine gates i)
+unfolding gateLine
+gate-put gates i o e t u p q h = rw (p, q) at h
 
 module _ (map offsets marks : List ℕ) (i : ℕ) (t : Text) where
   pub unmarked : getD marks i 0 ≡ 0 → t ≡ put t (bitsLine map offsets marks i)
@@ -56,10 +61,11 @@ room-put l bs m r h e =
     let s : m ≡ sets l 0 bs = cc in
     (n, s ∙ rw z at (sets-eq bs l 0 (omega arith)))
 
-pub written : (gates map offsets marks cs l m₁ : List ℕ) (r₁ : ℕ) (m₂ : List ℕ) (r₂ : ℕ) (m₃ : List ℕ) (r₃ : ℕ) (m : List ℕ) (r : ℕ)
-    → length (output gates map offsets marks cs) ≤ length l
+-- g is the code's count of the gates
+pub written : (gates map offsets marks cs l m₁ : List ℕ) (r₁ : ℕ) (m₂ : List ℕ) (r₂ : ℕ) (m₃ : List ℕ) (r₃ : ℕ) (m : List ℕ) (r g : ℕ)
+    → length (output gates map offsets marks cs) ≤ length l → g ≡ gateCount gates
     → text m₁ r₁ ≡ put (text l 0) (each (gateCount gates) (gateLine gates)) → text m₂ r₂ ≡ put (text m₁ r₁) (each (nodeCount marks) (nextBits map offsets marks))
-    → text m₃ r₃ ≡ put (text m₂ r₂) (each (constraintCount cs) (constraintLine cs)) → text m r ≡ put (text m₃ r₃) (doneLine (gateCount gates) (constraintCount cs))
+    → text m₃ r₃ ≡ put (text m₂ r₂) (each (constraintCount cs) (constraintLine cs)) → text m r ≡ put (text m₃ r₃) (doneLine g (constraintCount cs))
     → Written l (output gates map offsets marks cs) m r
-written gates map offsets marks cs l m₁ r₁ m₂ r₂ m₃ r₃ m r h e₁ e₂ e₃ e₄ =
-    room-put l (output gates map offsets marks cs) m r h (output-put gates map offsets marks cs (text l 0) _ _ _ _ e₁ e₂ e₃ e₄)
+written gates map offsets marks cs l m₁ r₁ m₂ r₂ m₃ r₃ m r g h q e₁ e₂ e₃ e₄ =
+    room-put l (output gates map offsets marks cs) m r h (output-put gates map offsets marks cs (text l 0) _ _ _ _ e₁ e₂ e₃ (rw q at e₄))

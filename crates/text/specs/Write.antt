@@ -5,13 +5,11 @@ use Prim.Native.Nat.{ℕ, zero, suc, _+_, _-_, _*_, _/_, _≤_, _<_}
 use lib.Dec.{eqb}
 use lib.ListN.{length, getD, take, drop}
 use Rattle.loops.specs.Loop.{pick}
+use Rattle.netlist.specs.Record.{used, records}
 use Rattle.text.specs.Over.{over}
 use Rattle.text.specs.Line.{line}
 
--- numbers of a gate record, and of a constraint
-abbrev pub gateSize : ℕ
-gateSize = 4
-
+-- numbers of a constraint; those of a gate record are netlist's to say
 abbrev pub constraintSize : ℕ
 constraintSize = 2
 
@@ -41,7 +39,7 @@ part o e l = take (e - o) (drop o l)
 
 -- gate i: its number, its record
 unfoldable pub gateLine : List ℕ → ℕ → List ℕ
-gateLine gates i = line gateName (i ∷ part (gateSize * i) (gateSize * i + gateSize) gates)
+gateLine gates i = line gateName (i ∷ part (used i) (used (i + 1)) gates)
 
 -- "One `bits` line a reached node, lowest bit first": node i, where it is marked; its bits stand in the map from offsets[i] up to offsets[i + 1]
 unfoldable pub bitsLine : List ℕ → List ℕ → List ℕ → ℕ → List ℕ
@@ -71,7 +69,7 @@ each zero f = []
 each (suc n) f = each n f ++ f n
 
 abbrev pub gateCount : List ℕ → ℕ
-gateCount gates = length gates / gateSize
+gateCount gates = records gates
 
 -- marks stand at the nodes' numbers; 0 is no node
 abbrev pub nodeCount : List ℕ → ℕ
@@ -96,7 +94,7 @@ pub record Offsets (offsets map : List ℕ) (n : ℕ) : Type 0 where
 -- bytes that are always enough: a tab and a number are at most 11 where the number is below 2^32, 21 where it is below 2^64
 unfoldable pub outputRoom : ℕ → ℕ → ℕ → ℕ → ℕ
 outputRoom gates nodes places constraints =
-    gates * (26 + 11 * gateSize) + (nodes * 26 + 11 * places) + constraints * (11 + 11 * constraintSize) + 47
+    gates * (26 + 11 * used 1) + (nodes * 26 + 11 * places) + constraints * (11 + 11 * constraintSize) + 47
 
 unfoldable pub refusedRoom : ℕ
 refusedRoom = 50

@@ -17,7 +17,7 @@ fn put_byte(out: &mut [u8], at: usize, b: u8) -> usize
     at
 }
 
-fn put_bytes(out: &mut [u8], at: usize, bytes: &[u8]) -> usize
+pub fn put_bytes(out: &mut [u8], at: usize, bytes: &[u8]) -> usize
     ensures { λ r. ⌜ text (now (out .exit)) r ≡ put (text (now (out .entry)) at) (now (bytes .entry)) ⌝ }
 {
     let mut p = at;
@@ -40,12 +40,18 @@ fn put_digits(out: &mut [u8], at: usize, n: u64) -> usize
     put_byte(out, p, 48 + (n % 10) as u8)
 }
 
+pub fn put_decimal(out: &mut [u8], at: usize, n: u64) -> usize
+    ensures { λ r. ⌜ text (now (out .exit)) r ≡ put (text (now (out .entry)) at) (decimal n) ⌝ }
+{
+    put_digits(out, at, n)
+}
+
 // A tab and a number.
 fn put_number(out: &mut [u8], at: usize, n: u64) -> usize
     ensures { λ r. ⌜ text (now (out .exit)) r ≡ put (text (now (out .entry)) at) (9 ∷ decimal n) ⌝ }
 {
     let p = put_byte(out, at, 9);
-    put_digits(out, p, n)
+    put_decimal(out, p, n)
 }
 
 fn wide(x: u32) -> u64

@@ -2,34 +2,43 @@
 use crate::put::put_numbered;
 use crate::put::put_pair;
 use crate::put::put_record;
+use netlist::record;
 ghost use mathlib.Core.Path.{_≡_};
 ghost use Prim.Native.Nat.{_+_, _*_, _≤_, _<_};
 ghost use lib.ListN.{length, getD};
+ghost use Rattle.netlist.specs.Record.{used, Room};
 ghost use Rattle.text.specs.Put.{put};
 ghost use Rattle.text.specs.Put.Text.{text};
-ghost use Rattle.text.specs.Write.{gateSize, constraintSize, gateCount, constraintCount, gateLine, bitsLine, nextBits, nodeCount, constraintLine, refusedLine, each, output, Offsets, outputRoom, refusedRoom, Written};
+ghost use Rattle.text.specs.Write.{constraintSize, gateCount, constraintCount, gateLine, bitsLine, nextBits, nodeCount, constraintLine, refusedLine, each, output, Offsets, outputRoom, refusedRoom, Written};
 
 // Bytes that are always enough for 4,096 gates, 512 nodes, 16,384 map places and 8,192 constraints.
 pub const ROOM: usize = 750639;
 
-// Numbers of a gate record, and of a constraint.
-const GATE_SIZE: usize = 4;
-
+// Numbers of a constraint.
 const CONSTRAINT_SIZE: usize = 2;
 
+// The numbers that the first n records take, which is netlist's to say. Record n starts there.
+fn taken(gates: &[u32], n: usize) -> usize
+    requires { ⌜ Room (now gates) n ⌝ }
+    ensures { λ r. ⌜ r ≡ used n ⌝ }
+{
+    let first = record::part(gates, n);
+    first.len()
+}
+
 fn gate_line(out: &mut [u8], at: usize, gates: &[u32], i: usize) -> usize
-    requires { ⌜ gateSize * i + gateSize ≤ length (now gates) ⌝ }
+    requires { ⌜ Room (now gates) (i + 1) ⌝ }
     ensures { λ r. ⌜ text (now (out .exit)) r ≡ put (text (now (out .entry)) at) (gateLine (now (gates .entry)) i) ⌝ }
 {
-    let o = GATE_SIZE * i;
-    let e = GATE_SIZE * i + GATE_SIZE;
+    let o = taken(gates, i);
+    let e = taken(gates, i + 1);
     put_numbered(out, at, b"gate", i as u64, &gates[o..e])
 }
 
 fn gate_lines(out: &mut [u8], at: usize, gates: &[u32]) -> usize
     ensures { λ r. ⌜ text (now (out .exit)) r ≡ put (text (now (out .entry)) at) (each (gateCount (now (gates .entry))) (gateLine (now (gates .entry)))) ⌝ }
 {
-    let n = gates.len() / GATE_SIZE;
+    let n = record::count(gates);
     let mut p = at;
     let mut i = 0;
     while i < n {
@@ -112,7 +121,7 @@ pub fn write(
     let p = gate_lines(out, 0, gates);
     let q = bits_lines(out, p, map, offsets, marks);
     let s = constraint_lines(out, q, constraints);
-    let g = gates.len() / GATE_SIZE;
+    let g = record::count(gates);
     let k = constraints.len() / CONSTRAINT_SIZE;
     put_pair(out, s, b"done", g as u64, k as u64)
 }

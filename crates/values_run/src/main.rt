@@ -3,7 +3,9 @@ ghost use Prim.Native.Nat.{_+_, _≤_, _<_};
 ghost use lib.ListN.{length};
 use cases::fill::list_u64;
 use cases::next_number;
+use libc::STDERR_FILENO;
 use libc::STDIN_FILENO;
+use libc::STDOUT_FILENO;
 use values::eval::eval_words;
 use values::eval::node;
 use values::eval::number;
@@ -107,6 +109,7 @@ fn run_case(
     )
 }
 
+// All cases: a line for each that differs, and their count.
 fn run_all(
     name: &[u8],
     text: &[u8],
@@ -114,25 +117,28 @@ fn run_all(
     table: &mut [u64],
     values: &mut [u64],
     wanted: &mut [u64],
-) {
+    page: &mut [u8],
+) -> usize {
     let first = next_number(text, 0);
     let cases = first.value;
     let mut at = first.next;
     let mut differ = 0;
+    let mut end = 0;
     let mut i = 0;
     while i < cases {
         let verdict = run_case(text, at, addrs, table, values, wanted);
         i += 1;
         if !verdict.same {
             differ += 1;
-            tally::report(name, i);
+            end = tally::report(page, end, name, i);
         }
         at = verdict.next;
     }
-    tally::summary(name, cases, differ);
+    tally::summary(page, end, name, cases, differ)
 }
 
-fn main() {
+// The cases of standard input.
+fn lines(page: &mut [u8]) -> usize {
     let mut text = [0u8; 262144];
     let n = io::read_full(STDIN_FILENO, &mut text);
     let mut addrs = [0u64; 128];
@@ -146,5 +152,15 @@ fn main() {
         &mut table,
         &mut values,
         &mut wanted,
-    );
+        page,
+    )
+}
+
+// All lines go out in one write. A program ends with no status of its own, so that a write that fails is told on standard error.
+fn main() {
+    let mut page = io::large_buffer();
+    let end = lines(&mut page);
+    if !io::write_all(STDOUT_FILENO, tally::said(&page, end)) {
+        io::write_all(STDERR_FILENO, b"not written\n");
+    }
 }

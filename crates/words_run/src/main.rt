@@ -6,6 +6,8 @@ ghost use Rattle.netlist.specs.Record.{Room};
 ghost use Rattle.words_run.specs.Rooms.{Four, Few};
 use gates::made::At;
 use gates::made::Made;
+use libc::STDERR_FILENO;
+use libc::STDOUT_FILENO;
 use netlist::check::is_done;
 use netlist::eval::eval_gates;
 use netlist::record;
@@ -185,8 +187,8 @@ fn count(
     differ
 }
 
-// One operation, into a gate list of its own. There is room for 64 gates: 10 stand before it, and no operation makes more than 40.
-fn run(name: &[u8], op: Op) {
+// One operation, into a gate list of its own, and its line. There is room for 64 gates: 10 stand before it, and no operation makes more than 40.
+fn run(name: &[u8], op: Op, page: &mut [u8], place: usize) -> usize {
     let mut gates = [0u32; 256];
     let mut values = [0u8; 64];
     let mut left = [0u32; 4];
@@ -198,13 +200,23 @@ fn run(name: &[u8], op: Op) {
     let end = lower(op, &mut gates, given, &left, &right, &mut out);
     let list = record::part(&gates, end.n);
     let differ = count(op, list, &left, &right, &out, &mut values);
-    tally::total(name, 256, b"pairs", differ);
+    tally::total(page, place, name, 256, b"pairs", differ)
 }
 
+// Each operation's line.
+fn lines(page: &mut [u8]) -> usize {
+    let add_end = run(b"add", Op::Add, page, 0);
+    let sub_end = run(b"sub", Op::Sub, page, add_end);
+    let ult_end = run(b"ult", Op::Ult, page, sub_end);
+    let eq_end = run(b"eq", Op::Eq, page, ult_end);
+    run(b"mul", Op::Mul, page, eq_end)
+}
+
+// All lines go out in one write. A program ends with no status of its own, so that a write that fails is told on standard error.
 fn main() {
-    run(b"add", Op::Add);
-    run(b"sub", Op::Sub);
-    run(b"ult", Op::Ult);
-    run(b"eq", Op::Eq);
-    run(b"mul", Op::Mul);
+    let mut page = io::buffer();
+    let end = lines(&mut page);
+    if !io::write_all(STDOUT_FILENO, tally::said(&page, end)) {
+        io::write_all(STDERR_FILENO, b"not written\n");
+    }
 }

@@ -1,16 +1,16 @@
-use native.Mathlib.Omega.{arith}
 use mathlib.Core.Path.{_≡_}
 use Prim.Native.Nat.{_≤_, _-_}
+use native.Mathlib.Omega.{arith}
 use lib.ListN.{length}
 use Rattle.lower_run.proofs.run_all.Statement.{statement}
 use Rattle.lower_run.proofs.run_all.Tie as tie
 
 abbrev Inv-loop : tie.InvT-loop
-Inv-loop name text table₀ addrs₀ gates₀ constraints₀ map₀ used-gates₀ used-constraints₀ used-map₀ cases at₀ differ₀ i₀ table addrs gates constraints map used-gates used-constraints used-map at differ i =
-    (at ≤ length text) × (i ≤ cases) × (differ ≤ i) × (length table ≡ length table₀) × (length addrs ≡ length addrs₀) × (length gates ≡ length gates₀) × (length constraints ≡ length constraints₀) × (length map ≡ length map₀) × (length used-gates ≡ length used-gates₀) × (length used-constraints ≡ length used-constraints₀) × (length used-map ≡ length used-map₀)
+Inv-loop name text table₀ addrs₀ gates₀ constraints₀ map₀ used-gates₀ used-constraints₀ used-map₀ page₀ cases at₀ differ₀ end₀ i₀ table addrs gates constraints map used-gates used-constraints used-map page at differ end i =
+    (at ≤ length text) × (i ≤ cases) × (differ ≤ i) × (length table ≡ length table₀) × (length addrs ≡ length addrs₀) × (length gates ≡ length gates₀) × (length constraints ≡ length constraints₀) × (length map ≡ length map₀) × (length used-gates ≡ length used-gates₀) × (length used-constraints ≡ length used-constraints₀) × (length used-map ≡ length used-map₀) × (length page ≡ length page₀)
 
 abbrev μ-loop : tie.MeasureT-loop
-μ-loop name text table₀ addrs₀ gates₀ constraints₀ map₀ used-gates₀ used-constraints₀ used-map₀ cases at₀ differ₀ i₀ table addrs gates constraints map used-gates used-constraints used-map at differ i =
+μ-loop name text table₀ addrs₀ gates₀ constraints₀ map₀ used-gates₀ used-constraints₀ used-map₀ page₀ cases at₀ differ₀ end₀ i₀ table addrs gates constraints map used-gates used-constraints used-map page at differ end i =
     cases - i
 
 next-number-requires : tie.Need-next-number-requires Inv-loop μ-loop
@@ -70,6 +70,9 @@ same-length-7 c = omega arith
 same-length-8 : tie.Need-same-length-8 Inv-loop μ-loop
 same-length-8 c = omega arith
 
+same-length-9 : tie.Need-same-length-9 Inv-loop μ-loop
+same-length-9 c = omega arith
+
 returns : tie.Need-returns Inv-loop μ-loop
 returns c = omega arith
 
@@ -98,4 +101,5 @@ run-all-spec =
     same-length-6
     same-length-7
     same-length-8
+    same-length-9
     returns)

@@ -1,38 +1,42 @@
+use borrow.Author.Needs.{needs}
+use mathlib.Core.Path.{_≡_}
 use Prim.Native.Nat.{_≤_}
 use native.Mathlib.Omega.{arith}
-use lib.ListN.{length}
+use lib.ListN.{length, drop}
+use Rattle.trial.specs.Said.{numberOf}
+use Rattle.trial.proofs.Steps.{number-none, number-more, number-done}
 use Rattle.trial.proofs.number_of.Statement.{statement}
 use Rattle.trial.proofs.number_of.Tie as tie
 
 abbrev Inv-loop : tie.InvT-loop
-Inv-loop values bits x₀ i₀ x i = i ≤ length bits
+Inv-loop values bits x₀ i₀ x i = (i ≤ length bits) × (x ≡ numberOf values (drop i bits))
 
 abbrev μ-loop : tie.MeasureT-loop
 μ-loop values bits x₀ i₀ x i = i
 
 loop-holds : tie.Need-loop-holds Inv-loop μ-loop
-loop-holds c = omega arith
+loop-holds c = (omega arith, search (needs, number-none))
 
 sub-i : tie.Need-sub-i Inv-loop μ-loop
-sub-i c = omega arith
+sub-i c = search needs
 
-mul-value-of : tie.Need-mul-value-of Inv-loop μ-loop
-mul-value-of c = omega arith
+mul-with-lowest : tie.Need-mul-with-lowest Inv-loop μ-loop
+mul-with-lowest c = search needs
 
-shared-slice-read-value-of : tie.Need-shared-slice-read-value-of Inv-loop μ-loop
-shared-slice-read-value-of c = omega arith
+shared-slice-read-with-lowest : tie.Need-shared-slice-read-with-lowest Inv-loop μ-loop
+shared-slice-read-with-lowest c = search needs
 
-value-of-requires : tie.Need-value-of-requires Inv-loop μ-loop
-value-of-requires c κs = omega arith
+with-lowest-requires : tie.Need-with-lowest-requires Inv-loop μ-loop
+with-lowest-requires c κs = search needs
 
 loop-less : tie.Need-loop-less Inv-loop μ-loop
 loop-less c = omega arith
 
 loop-again : tie.Need-loop-again Inv-loop μ-loop
-loop-again c = omega arith
+loop-again c = (omega arith, search (needs, number-more))
 
 returns : tie.Need-returns Inv-loop μ-loop
-returns c = omega arith
+returns c = search (needs, number-done)
 
 pub number-of-spec : {M : Type 1} → statement M
 number-of-spec =
@@ -42,9 +46,9 @@ number-of-spec =
     μ-loop
     loop-holds
     sub-i
-    mul-value-of
-    shared-slice-read-value-of
-    value-of-requires
+    mul-with-lowest
+    shared-slice-read-with-lowest
+    with-lowest-requires
     loop-less
     loop-again
     returns)

@@ -1,14 +1,16 @@
+use mathlib.Core.Path.{_≡_}
 use Prim.Native.Nat.{_≤_, _-_}
 use borrow.Author.Needs.{needs}
 use native.Mathlib.Omega.{arith}
+use lib.ListN.{length}
 use Rattle.lower_run.proofs.edges.run_edges.Statement.{statement}
 use Rattle.lower_run.proofs.edges.run_edges.Tie as tie
 
 abbrev Inv-loop : tie.InvT-loop
-Inv-loop name differ₀ i₀ t4 t5 differ i = (i ≤ 10) × (differ ≤ i)
+Inv-loop name page₀ place differ₀ end₀ i₀ t7 t8 page differ end i = (i ≤ 10) × (differ ≤ i) × (length page ≡ length page₀)
 
 abbrev μ-loop : tie.MeasureT-loop
-μ-loop name differ₀ i₀ t4 t5 differ i = 10 - i
+μ-loop name page₀ place differ₀ end₀ i₀ t7 t8 page differ end i = 10 - i
 
 loop-holds : tie.Need-loop-holds Inv-loop μ-loop
 loop-holds c = omega arith
@@ -46,6 +48,9 @@ slice-aggregate-total c = search needs
 total-requires : tie.Need-total-requires Inv-loop μ-loop
 total-requires c κs = omega arith
 
+same-length : tie.Need-same-length Inv-loop μ-loop
+same-length c = omega arith
+
 returns : tie.Need-returns Inv-loop μ-loop
 returns c = omega arith
 
@@ -67,4 +72,5 @@ run-edges-spec =
     loop-again-2
     slice-aggregate-total
     total-requires
+    same-length
     returns)

@@ -1,3 +1,6 @@
+use Rattle.lowering.proofs.RootFacts.{root-skip, root-visit}
+use Rattle.lowering.specs.Asked.{lowOf}
+use Rattle.lowering.specs.Source.{source}
 use borrow.Author.Needs.{needs}
 use Rattle.lowering.proofs.root.root_step.Statement.{statement}
 use Rattle.lowering.proofs.root.root_step.Tie as tie
@@ -12,7 +15,7 @@ node-at-requires c κs = search needs
 
 -- src/root.rt:40:9
 returns : tie.Need-returns
-returns c = ?
+returns c = root-skip (source (c .before .before .before .before .before .before .before .before .before .before .args .table .now) (c .before .before .before .before .before .before .before .before .before .before .args .addrs .now) (c .before .before .before .before .before .before .before .before .before .before .args .word)) (c .before .before .before .before .before .before .before .before .before .before .args .k) _ (c .before .before .node-at .ensures) (lowOf (c .before .before .before .before .before .before .before .before .before .before .args .gates .now) (c .before .before .before .before .before .before .before .before .before .before .args .cons .now) (c .before .before .before .before .before .before .before .before .before .before .args .map .now) (c .before .before .before .before .before .before .before .before .before .before .args .seen .now) (c .before .before .before .before .before .before .before .before .before .before .args .p)) (c .if1 .taken)
 
 -- src/root.rt:42:5
 visit-requires : tie.Need-visit-requires
@@ -36,7 +39,7 @@ same-length-4 c = search needs
 
 -- src/root.rt:23:1
 returns-2 : tie.Need-returns-2
-returns-2 c = ?
+returns-2 c = root-visit (source (c .before .before .before .before .before .before .before .before .before .before .before .before .before .before .before .before .before .before .before .before .before .before .before .args .table .now) (c .before .before .before .before .before .before .before .before .before .before .before .before .before .before .before .before .before .before .before .before .before .before .before .args .addrs .now) (c .before .before .before .before .before .before .before .before .before .before .before .before .before .before .before .before .before .before .before .before .before .before .before .args .word)) (c .before .before .before .before .before .before .before .before .before .before .before .before .before .before .before .before .before .before .before .before .before .before .before .args .k) _ (c .before .before .before .before .before .before .before .before .before .before .before .before .before .before .before .node-at .ensures) (lowOf (c .before .before .before .before .before .before .before .before .before .before .before .before .before .before .before .before .before .before .before .before .before .before .before .args .gates .now) (c .before .before .before .before .before .before .before .before .before .before .before .before .before .before .before .before .before .before .before .before .before .before .before .args .cons .now) (c .before .before .before .before .before .before .before .before .before .before .before .before .before .before .before .before .before .before .before .before .before .before .before .args .map .now) (c .before .before .before .before .before .before .before .before .before .before .before .before .before .before .before .before .before .before .before .before .before .before .before .args .seen .now) (c .before .before .before .before .before .before .before .before .before .before .before .before .before .before .before .before .before .before .before .before .before .before .before .args .p)) (c .before .before .before .before .before .before .before .before .before .before .before .before .before .if1 .left) _ (c .before .before .before .before .before .before .before .before .visit .ensures)
 
 pub root-step-spec : {M : Type 1} → statement M
 root-step-spec =

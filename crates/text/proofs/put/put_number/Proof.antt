@@ -6,8 +6,8 @@ use Rattle.text.proofs.put.put_number.Tie as tie
 put-byte-requires : tie.Need-put-byte-requires
 put-byte-requires c κs = search needs
 
-put-digits-requires : tie.Need-put-digits-requires
-put-digits-requires c κs = search needs
+put-decimal-requires : tie.Need-put-decimal-requires
+put-decimal-requires c κs = search needs
 
 same-length : tie.Need-same-length
 same-length c = search needs
@@ -16,4 +16,4 @@ returns : tie.Need-returns
 returns c = search (needs, number-put)
 
 pub put-number-spec : {M : Type 1} → statement M
-put-number-spec = tie.close (tie.spec put-byte-requires put-digits-requires same-length returns)
+put-number-spec = tie.close (tie.spec put-byte-requires put-decimal-requires same-length returns)

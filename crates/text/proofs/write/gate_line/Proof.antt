@@ -1,16 +1,17 @@
-use Rattle.text.specs.Write.{gateLine, gateName}
+use Rattle.text.specs.Write.{gateName}
+use Rattle.text.proofs.Writes.{gate-put}
 use borrow.Author.Needs.{needs}
 use Rattle.text.proofs.write.gate_line.Statement.{statement}
 use Rattle.text.proofs.write.gate_line.Tie as tie
 
-mul-o : tie.Need-mul-o
-mul-o c = search needs
+taken-requires : tie.Need-taken-requires
+taken-requires c κs = search needs
 
-mul-e : tie.Need-mul-e
-mul-e c = search needs
+add-taken : tie.Need-add-taken
+add-taken c = search needs
 
-add-e : tie.Need-add-e
-add-e c = search needs
+taken-requires-2 : tie.Need-taken-requires-2
+taken-requires-2 c κs = search needs
 
 slice-aggregate-put-numbered : tie.Need-slice-aggregate-put-numbered
 slice-aggregate-put-numbered c = search needs
@@ -34,16 +35,16 @@ same-length : tie.Need-same-length
 same-length c = search needs
 
 returns : tie.Need-returns
-unfolding gateLine gateName
-returns c = search needs
+unfolding gateName
+returns c = gate-put _ _ _ _ _ _ (c .before .before .before .before .before .before .before .taken .ensures) (c .before .before .before .before .before .before .taken2 .ensures) (c .before .before .put-numbered .ensures)
 
 pub gate-line-spec : {M : Type 1} → statement M
 gate-line-spec =
     tie.close
     (tie.spec
-    mul-o
-    mul-e
-    add-e
+    taken-requires
+    add-taken
+    taken-requires-2
     slice-aggregate-put-numbered
     mul-put-numbered
     sub-put-numbered

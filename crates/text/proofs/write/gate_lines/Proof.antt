@@ -16,6 +16,9 @@ Inv-loop out₀ at gates n p₀ i₀ out p i = (i ≤ n) × (length out ≡ leng
 abbrev μ-loop : tie.MeasureT-loop
 μ-loop out₀ at gates n p₀ i₀ out p i = n - i
 
+count-requires : tie.Need-count-requires Inv-loop μ-loop
+count-requires c κs = search needs
+
 loop-holds : tie.Need-loop-holds Inv-loop μ-loop
 loop-holds c = (omega arith, refl, search (needs, each-none))
 
@@ -35,7 +38,7 @@ same-length : tie.Need-same-length Inv-loop μ-loop
 same-length c = search needs
 
 returns : tie.Need-returns Inv-loop μ-loop
-returns c = search (needs, each-done)
+returns c = each-done _ _ _ (c .before .loop .i) _ (omega (arith, c .before .before .count .ensures)) (omega (arith, c .before .before .count .ensures)) (c .before .loop .inv .2)
 
 pub gate-lines-spec : {M : Type 1} → statement M
 gate-lines-spec =
@@ -43,6 +46,7 @@ gate-lines-spec =
     (tie.spec
     Inv-loop
     μ-loop
+    count-requires
     loop-holds
     gate-line-requires
     add-i

@@ -17,6 +17,9 @@ bits-lines-requires c κs = search needs
 constraint-lines-requires : tie.Need-constraint-lines-requires
 constraint-lines-requires c κs = search needs
 
+count-requires : tie.Need-count-requires
+count-requires c κs = search needs
+
 slice-aggregate-put-pair : tie.Need-slice-aggregate-put-pair
 slice-aggregate-put-pair c = search needs
 
@@ -29,14 +32,14 @@ same-length c = search needs
 returns : tie.Need-returns
 unfolding doneLine doneName
 returns c =
-    let a = c .before .before .before .before .before .before .before .before .before .before .before .before .before .before .before .before .before .before .before .before .before .before .before .args in
+    let a = c .before .before .before .before .before .before .before .before .before .before .before .before .before .before .before .before .before .before .before .before .before .before .before .before .args in
     let fits =
     output-length (a .gates .now) (a .map .now) (a .offsets .now) (a .marks .now) (a .constraints .now)
-    (λ i. c .before .before .before .before .before .before .before .before .before .before .before .before .before .before .before .before .before .before .before .before .before .before .shared-slice-known .given i .fits) (λ i. c .before .before .before .before .before .before .before .before .before .before .before .before .before .before .before .before .before .before .before .before .before .shared-slice-known2 .given i .fits) (λ i. c .before .before .before .before .before .before .before .before .before .before .before .before .before .before .before .before .before .before .shared-slice-known5 .given i .fits)
-    (omega (arith, c .before .before .before .before .before .before .before .before .before .before .before .before .before .before .before .before .before .before .before .before .before .before .before .good)) (omega (arith, c .before .before .before .before .before .before .before .before .before .before .before .before .before .before .before .before .before .before .before .before .before .before .before .good)) (omega (arith, c .before .before .before .before .before .before .before .before .before .before .before .before .before .before .before .before .before .before .before .before .before .before .before .good)) (c .before .before .before .before .before .before .before .before .before .before .before .before .before .before .before .before .before .before .before .before .before .before .before .pre .0) in
-    let room : length (output (a .gates .now) (a .map .now) (a .offsets .now) (a .marks .now) (a .constraints .now)) ≤ length (a .out .now) = omega (arith, c .before .before .before .before .before .before .before .before .before .before .before .before .before .before .before .before .before .before .before .before .before .before .before .pre .1) in
+    (λ i. c .before .before .before .before .before .before .before .before .before .before .before .before .before .before .before .before .before .before .before .before .before .before .before .shared-slice-known .given i .fits) (λ i. c .before .before .before .before .before .before .before .before .before .before .before .before .before .before .before .before .before .before .before .before .before .before .shared-slice-known2 .given i .fits) (λ i. c .before .before .before .before .before .before .before .before .before .before .before .before .before .before .before .before .before .before .before .shared-slice-known5 .given i .fits)
+    (omega (arith, c .before .before .before .before .before .before .before .before .before .before .before .before .before .before .before .before .before .before .before .before .before .before .before .before .good)) (omega (arith, c .before .before .before .before .before .before .before .before .before .before .before .before .before .before .before .before .before .before .before .before .before .before .before .before .good)) (omega (arith, c .before .before .before .before .before .before .before .before .before .before .before .before .before .before .before .before .before .before .before .before .before .before .before .before .good)) (c .before .before .before .before .before .before .before .before .before .before .before .before .before .before .before .before .before .before .before .before .before .before .before .before .pre .0) in
+    let room : length (output (a .gates .now) (a .map .now) (a .offsets .now) (a .marks .now) (a .constraints .now)) ≤ length (a .out .now) = omega (arith, c .before .before .before .before .before .before .before .before .before .before .before .before .before .before .before .before .before .before .before .before .before .before .before .before .pre .1) in
     written (a .gates .now) (a .map .now) (a .offsets .now) (a .marks .now) (a .constraints .now) (a .out .now)
-    _ _ _ _ _ _ _ _ room (c .before .before .before .before .before .before .before .before .before .before .before .before .before .before .before .gate-lines .ensures) (c .before .before .before .before .before .before .before .before .before .before .before .bits-lines .ensures) (c .before .before .before .before .before .before .before .constraint-lines .ensures) (c .before .before .put-pair .ensures)
+    _ _ _ _ _ _ _ _ _ room (c .before .before .before .before .before .count .ensures) (c .before .before .before .before .before .before .before .before .before .before .before .before .before .before .before .before .gate-lines .ensures) (c .before .before .before .before .before .before .before .before .before .before .before .before .bits-lines .ensures) (c .before .before .before .before .before .before .before .before .constraint-lines .ensures) (c .before .before .put-pair .ensures)
 
 pub write-spec : {M : Type 1} → statement M
 write-spec =
@@ -45,6 +48,7 @@ write-spec =
     gate-lines-requires
     bits-lines-requires
     constraint-lines-requires
+    count-requires
     slice-aggregate-put-pair
     put-pair-requires
     same-length

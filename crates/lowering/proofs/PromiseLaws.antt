@@ -1,0 +1,171 @@
+-- From the answer the demands follow: what the entry point promises.
+use mathlib.Core.Path.{_≡_, refl, ap, sym, _∙_, subst}
+use mathlib.Core.List.{List, [], _++_}
+use mathlib.Core.Logic.{_⊎_, inl, inr}
+use mathlib.Core.Bool.{Bool, true, false, not}
+use Prim.Native.Nat.{ℕ, suc, _+_, _≤_, _<_}
+use native.Mathlib.Omega.{arith}
+use native.Mathlib.Decide.{ℕ-discrete}
+use lib.Dec.{eqb, ltb}
+use lib.ListN.{length, take, drop}
+use lib.Seq.{take-append-seam}
+use borrow.Author.Tests.{eqb-true, ltb-false}
+use Rattle.loops.specs.Loop.{iter}
+use Rattle.loops.proofs.Loop.{by-pick, iter-inv}
+use Rattle.table.specs.declared.Fault.the-variants.{Clear}
+use Rattle.table.specs.Sheet.{tableFault, isClear}
+use Rattle.table.proofs.Whole.{is-clear}
+use Rattle.netlist.specs.Record.{records}
+use Rattle.values.specs.declared.Answer.the-variants as words
+use Rattle.values.specs.Eval.{evalWords}
+use Rattle.visits.specs.Flow.{Core, Low, visitTo, rootStep, lowerTo}
+use Rattle.visits.specs.Claims.{Is, OwnLaw, Lowered, Small, Halted}
+use Rattle.visits.proofs.Later.{Sound, sound-later, visit-later}
+use Rattle.visits.proofs.Roots.{start-sound}
+use Rattle.lowering.specs.declared.lower.Answer.{Answer}
+use Rattle.lowering.specs.declared.lower.Answer.the-variants.{Done, Table, GateRoom, BitRoom, ConstraintRoom, ZeroDivisor}
+use Rattle.lowering.specs.Source.{Source, totalOf, gatesOf}
+use Rattle.lowering.specs.Own.{ownStep}
+use Rattle.lowering.specs.Lower.{recipe, Run, run, start, lowered, sums, conRecords, ended, lowerClear, lowerAll, Accepted, number}
+use Rattle.lowering.specs.Meaning.{meaning}
+use Rattle.lowering.specs.Asked.{coreAt}
+use Rattle.lowering.specs.Promise.{said, Right, Bounded, Promise}
+use Rattle.lowering.proofs.ShapeLaws.{shape}
+use Rattle.lowering.proofs.StartLaws.{starts}
+use Rattle.lowering.proofs.SmallLaws.{done, refused}
+use Rattle.lowering.proofs.Demands as demands
+use Rattle.lowering.proofs.RightLower as demand2
+use Rattle.lowering.proofs.WordFacts.{clash}
+use Rattle.lowering.proofs.VisitFacts.{own-steps}
+
+-- the parts of an answer
+isDone : Answer → Bool
+isDone (Done n k) = true
+isDone (Table f) = false
+isDone GateRoom = false
+isDone BitRoom = false
+isDone ConstraintRoom = false
+isDone (ZeroDivisor k) = false
+
+gateCount : Answer → ℕ
+gateCount (Done n k) = n
+gateCount (Table f) = 0
+gateCount GateRoom = 0
+gateCount BitRoom = 0
+gateCount ConstraintRoom = 0
+gateCount (ZeroDivisor k) = 0
+
+constraintCount : Answer → ℕ
+constraintCount (Done n k) = k
+constraintCount (Table f) = 0
+constraintCount GateRoom = 0
+constraintCount BitRoom = 0
+constraintCount ConstraintRoom = 0
+constraintCount (ZeroDivisor k) = 0
+
+-- a lowering that was done: the table was accepted, nothing stopped it, and this is what the buffers hold
+record Finished (S : Source) (g c m : List ℕ) (n k : ℕ) (r : Run) : Type 0 where
+  accepted : Accepted S g c m
+  runs : lowered S g c .core .stop ≡ 0
+  count : lowered S g c .core .net .n ≡ n
+  asks : lowered S g c .core .nc ≡ k
+  gates : r .gates ≡ lowered S g c .core .net .gates
+  cons : r .cons ≡ lowered S g c .core .cons
+  map : r .map ≡ lowered S g c .core .map ++ drop (totalOf S) m
+
+module _ (S : Source) (g c m : List ℕ) (n k : ℕ) where
+  abbrev Ends : Run → Type 0
+  Ends r = r .answer ≡ Done n k → Finished S g c m n k r
+
+  finished-end : Accepted S g c m → Ends (ended S g c m (lowered S g c))
+  unfolding ended isDone gateCount constraintCount
+  finished-end a =
+      by-pick Ends (eqb (lowered S g c .core .stop) 0) _ _
+      (λ z e. record { accepted = a; runs = eqb-true (lowered S g c .core .stop) 0 z; count = ap gateCount e; asks = ap constraintCount e; gates = refl; cons = refl; map = refl })
+      (λ _ e. clash (sym (ap isDone e)))
+
+  finished-clear : tableFault (S .table) (S .addrs) (S .word) ≡ Clear → Ends (lowerClear S g c m)
+  unfolding lowerClear isDone
+  finished-clear clear =
+      by-pick Ends (ltb (records g) (sums S .gates)) _ _ (λ _ e. clash (sym (ap isDone e)))
+      (λ a. by-pick Ends (ltb (length m) (sums S .map)) _ _ (λ _ e. clash (sym (ap isDone e)))
+      (λ b. by-pick Ends (ltb (conRecords c) (sums S .constraints)) _ _ (λ _ e. clash (sym (ap isDone e)))
+      (λ d. finished-end (record {
+        clear = clear;
+        gates = ltb-false (records g) (sums S .gates) a;
+        map = ltb-false (length m) (sums S .map) b;
+        constraints = ltb-false (conRecords c) (sums S .constraints) d;
+      }))))
+
+  finished : Ends (lowerAll S g c m)
+  unfolding lowerAll isDone
+  finished =
+      by-pick Ends (isClear (tableFault (S .table) (S .addrs) (S .word))) _ _ (λ h. finished-clear (is-clear (tableFault (S .table) (S .addrs) (S .word)) (ap (λ (b : Bool). not b) h))) (λ _ e. clash (sym (ap isDone e)))
+
+-- the map keeps its length
+module _ (S : Source) (g c m : List ℕ) (a : Accepted S g c m) where
+  sound-step : (i : ℕ) (t : Low) → i < recipe S .size → Sound (recipe S) t → Sound (recipe S) (rootStep (recipe S) i t)
+  unfolding rootStep
+  sound-step i t lt d = by-pick (Sound (recipe S)) _ _ _ (λ _. sound-later d (visit-later (shape S (a .clear)) (own-steps S (a .clear)) (suc i) i t d lt)) (λ _. d)
+
+  sound-all : Sound (recipe S) (lowered S g c)
+  unfolding lowerTo
+  sound-all = iter-inv (λ _ t. Sound (recipe S) t) (rootStep (recipe S)) (start S g c) (recipe S .size) (start-sound (starts S g c (a .gates) (a .constraints))) sound-step
+
+-- what the buffers then say is what the visits made
+module _ (S : Source) (g c m : List ℕ) (n k : ℕ) (g′ c′ m′ : List ℕ) (a : Answer) (f : Finished S g c m n k (run a g′ c′ m′)) where
+  map-back : take (totalOf S) m′ ≡ lowered S g c .core .map
+  map-back =
+      ap (take (totalOf S)) (f .map)
+      ∙ (ap (λ (i : ℕ). take i (lowered S g c .core .map ++ drop (totalOf S) m)) (sym (sound-all S g c m (f .accepted) .mapped)) ∙ take-append-seam (lowered S g c .core .map) (drop (totalOf S) m))
+
+  said-core : said S g′ c′ m′ n k [] .core ≡ lowered S g c .core
+  said-core =
+      let t : Core = lowered S g c .core in
+      rw (f .gates, f .cons, map-back, ← f .count, ← f .asks) (ap {B = Core} (λ (x : ℕ). coreAt (t .net) (t .cons) (t .nc) (t .map) x) (sym (f .runs)))
+
+  finished-right : Right S (said S g′ c′ m′ n k [])
+  finished-right v e =
+      let t : Lowered (recipe S) (meaning S (evalWords (S .table) (S .addrs) (S .word) v .values)) (lowered S g c) = demand2.right S g c m (f .accepted) (f .runs) v e in
+      subst (λ (x : Core). Lowered (recipe S) (meaning S (evalWords (S .table) (S .addrs) (S .word) v .values)) (record { core = x; seen = [] })) (sym said-core)
+      (record { right = t .right; exists = t .exists; one = t .one; none = t .none })
+
+  finished-small : (z : List ℕ) × Small (recipe S) (start S g c) (said S g′ c′ m′ n k z)
+  finished-small = (
+    lowered S g c .seen,
+    subst (λ (x : Core). Small (recipe S) (start S g c) (record { core = x; seen = lowered S g c .seen })) (sym said-core) (demands.small S g c m (f .accepted) (f .runs)),
+  )
+
+-- each node adds at most its ceiling
+each : (S : Source) → tableFault (S .table) (S .addrs) (S .word) ≡ Clear → (j : ℕ) (s : Core) → Is (recipe S) j → length (s .map) ≡ totalOf S → ownStep S j s .net .n ≤ s .net .n + gatesOf S j
+each S clear j s is mapped = go (ℕ-discrete (s .stop) 0)
+  where
+    law : OwnLaw (recipe S)
+    law = own-steps S clear
+
+    go : Dec (s .stop ≡ 0) → ownStep S j s .net .n ≤ s .net .n + gatesOf S j
+    go (yes run) = law .step j s is mapped run .frame .grows .upto
+    go (no ne) = omega (arith, ap (λ (t : Core). t .net .n) (law .idle j s ne))
+
+only-ten : (S : Source) (g c m : List ℕ) (a : Answer) → a ≡ lowerAll S g c m .answer → Accepted S g c m → (number a ≡ 0) ⊎ ((number a ≡ 10) × Halted (recipe S) (lowered S g c))
+only-ten S g c m a e h = go (ℕ-discrete (lowered S g c .core .stop) 0)
+  where
+    go : Dec (lowered S g c .core .stop ≡ 0) → (number a ≡ 0) ⊎ ((number a ≡ 10) × Halted (recipe S) (lowered S g c))
+    go (yes run) = inl (ap number (e ∙ done S g c m h run))
+    go (no ne) = inr (ap number (e ∙ refused S g c m h ne), demands.halted S g c m h ne)
+
+pub promise : (S : Source) (g c m : List ℕ) (a : Answer) (g′ c′ m′ : List ℕ) → run a g′ c′ m′ ≡ lowerAll S g c m → Promise S g c m a g′ c′ m′
+promise S g c m a g′ c′ m′ e =
+    record {
+      answer = e;
+      right = λ n k h. finished-right S g c m n k g′ c′ m′ a (held n k h);
+      small =
+          record {
+            made = λ n k h. finished-small S g c m n k g′ c′ m′ a (held n k h);
+            refused = only-ten S g c m a (ap (λ (r : Run). r .answer) e);
+            each = each S;
+          };
+    }
+  where
+    held : (n k : ℕ) → a ≡ Done n k → Finished S g c m n k (run a g′ c′ m′)
+    held n k h = subst (λ (r : Run). Ends S g c m n k r) (sym e) (finished S g c m n k) h
