@@ -1,0 +1,67 @@
+use mathlib.Core.Path.{_≡_}
+use Prim.Native.Nat.{_≤_, _-_}
+use native.Mathlib.Omega.{arith}
+use lib.ListN.{length}
+use Rattle.lower_run.proofs.edges.ite_chain.Statement.{statement}
+use Rattle.lower_run.proofs.edges.ite_chain.Tie as tie
+
+abbrev Inv-loop : tie.InvT-loop
+Inv-loop table₀ k₀ table k = (3 ≤ k) × (k ≤ 503) × (length table ≡ length table₀)
+
+abbrev μ-loop : tie.MeasureT-loop
+μ-loop table₀ k₀ table k = 503 - k
+
+put-node-requires : tie.Need-put-node-requires Inv-loop μ-loop
+put-node-requires c κs = omega arith
+
+put-node-requires-2 : tie.Need-put-node-requires-2 Inv-loop μ-loop
+put-node-requires-2 c κs = omega arith
+
+loop-holds : tie.Need-loop-holds Inv-loop μ-loop
+loop-holds c = omega arith
+
+sub-below : tie.Need-sub-below Inv-loop μ-loop
+sub-below c = omega arith
+
+put-node-requires-3 : tie.Need-put-node-requires-3 Inv-loop μ-loop
+put-node-requires-3 c κs = omega arith
+
+add-k : tie.Need-add-k Inv-loop μ-loop
+add-k c = omega arith
+
+loop-less : tie.Need-loop-less Inv-loop μ-loop
+loop-less c = omega arith
+
+loop-again : tie.Need-loop-again Inv-loop μ-loop
+loop-again c = omega arith
+
+put-node-requires-4 : tie.Need-put-node-requires-4 Inv-loop μ-loop
+put-node-requires-4 c κs = omega arith
+
+put-node-requires-5 : tie.Need-put-node-requires-5 Inv-loop μ-loop
+put-node-requires-5 c κs = omega arith
+
+same-length : tie.Need-same-length Inv-loop μ-loop
+same-length c = omega arith
+
+returns : tie.Need-returns Inv-loop μ-loop
+returns c = omega arith
+
+pub ite-chain-spec : {M : Type 1} → statement M
+ite-chain-spec =
+    tie.close
+    (tie.spec
+    Inv-loop
+    μ-loop
+    put-node-requires
+    put-node-requires-2
+    loop-holds
+    sub-below
+    put-node-requires-3
+    add-k
+    loop-less
+    loop-again
+    put-node-requires-4
+    put-node-requires-5
+    same-length
+    returns)
