@@ -1,17 +1,15 @@
 -- The gates of any table have numbers that a u32 holds.
-use mathlib.Core.Path.{_≡_, ap, _∙_}
+use mathlib.Core.Path.{_≡_}
 use mathlib.Core.List.{List}
-use mathlib.Core.Bool.{true, false}
-use Prim.Native.Nat.{ℕ, zero, suc, _+_, _-_, _*_, _/_, _≤_, _<_}
+use Prim.Native.Nat.{ℕ, zero, suc, _+_, _-_, _*_, _≤_, _<_}
 use native.Mathlib.Omega.{arith}
 use lib.Dec.{eqb}
 use lib.ListN.{length}
-use Rattle.loops.specs.Loop.{pick}
 use Rattle.loops.proofs.Loop.{by-pick}
 use Rattle.table.specs.declared.Node.{Node}
 use Rattle.table.specs.declared.Fault.the-variants.{Clear}
 use Rattle.table.specs.declared.Unit.the-variants.{Bit}
-use Rattle.table.specs.Node.{nodes, nodeAt, widthOf, aOf, Narrow}
+use Rattle.table.specs.Node.{nodes, nodeAt, widthOf, aOf}
 use Rattle.table.specs.Size.{sizeOf}
 use Rattle.table.specs.Sheet.{tableFault}
 use Rattle.table.specs.Ceiling.{divGates, memoryGates, iteGates, plainGates, ceiling, nodeGates, sumsOf}

@@ -10,16 +10,14 @@ use Rattle.loops.proofs.Loop.{pick-true, pick-false, by-pick}
 use Rattle.table.specs.declared.Node.{Node}
 use Rattle.table.specs.Kind.{BAD}
 use Rattle.table.specs.Node.{nodes}
-use Rattle.netlist.specs.Record.{gate, put, records, Room}
-use Rattle.netlist.proofs.RecordLaws.{put-length}
-use Rattle.gates.specs.declared.made.At.{At}
-use Rattle.visits.specs.Flow.{Low, visitTo, rootStep, lowerTo}
+use Rattle.netlist.specs.Record.{gate, put, Room}
+use Rattle.visits.specs.Flow.{Low, rootStep, lowerTo}
 use Rattle.visits.specs.Claims.{Start, left}
 use Rattle.visits.proofs.Roots.{start-left, start-fit}
 use Rattle.nodes.specs.declared.own.Progress.{Progress}
-use Rattle.nodes.specs.Source.{Source, nodeOf, totalOf, gatesOf}
+use Rattle.nodes.specs.Source.{Source, nodeOf, gatesOf}
 use Rattle.nodes.specs.Recipe.{recipe}
-use Rattle.lowering.specs.Lower.{start, sums, UNREACHED}
+use Rattle.lowering.specs.Lower.{start, UNREACHED}
 use Rattle.lowering.specs.Visit.{Goes, Begins, Visits, lowOf}
 use Rattle.lowering.proofs.StartLaws.{starts, gates-sum}
 use Rattle.lowering.proofs.VisitFacts.{goes-visited}

@@ -1,14 +1,12 @@
 -- Demand 3 of the lowering of a table without fault, with room for the sums: what it makes is small and formed, and it is refused only with 10.
 use mathlib.Core.Path.{_≡_, ap, _∙_}
 use mathlib.Core.List.{List}
-use Prim.Native.Nat.{ℕ, _≤_}
+use Prim.Native.Nat.{ℕ}
 use lib.ListN.{length}
 use borrow.Author.Tests.{le-ltb, eq-eqb, ne-eqb}
 use Rattle.loops.proofs.Loop.{pick-true, pick-false}
-use Rattle.table.specs.declared.Fault.the-variants.{Clear}
-use Rattle.table.specs.Sheet.{tableFault, isClear}
+use Rattle.table.specs.Sheet.{isClear}
 use Rattle.netlist.specs.Record.{records}
-use Rattle.visits.specs.Flow.{Low, lowerTo}
 use Rattle.visits.specs.Claims.{Small, Halted}
 use Rattle.visits.proofs.Small as visits
 use Rattle.visits.proofs.Halts as halts

@@ -1,8 +1,8 @@
 -- What the proof of the visits cites: which state they go on from, and what one node's visits make of it.
-use mathlib.Core.Path.{_≡_, refl, ap, sym, _∙_, subst}
+use mathlib.Core.Path.{_≡_, ap, sym, _∙_, subst}
 use mathlib.Core.List.{List}
-use mathlib.Core.Bool.{Bool, _&&_}
-use Prim.Native.Nat.{ℕ, suc, _+_, _≤_, _<_}
+use mathlib.Core.Bool.{_&&_}
+use Prim.Native.Nat.{ℕ, suc, _≤_, _<_}
 use native.Mathlib.Omega.{arith}
 use lib.Dec.{eqb}
 use lib.ListN.{length, getD, set, length-set}
@@ -13,12 +13,12 @@ use Rattle.table.specs.Kind.{ITE}
 use Rattle.table.specs.Node.{nodes}
 use Rattle.table.specs.Sheet.{tableFault}
 use Rattle.netlist.specs.Bit.{isKnown}
-use Rattle.visits.specs.Flow.{Core, Low, Recipe, visitTo, enter}
-use Rattle.visits.specs.Claims.{Is, Shape, OwnLaw}
+use Rattle.visits.specs.Flow.{Core, Low, visitTo}
+use Rattle.visits.specs.Claims.{Is, OwnLaw}
 use Rattle.visits.proofs.Marks.{positive, left-marked}
 use Rattle.visits.proofs.Later.{Later, Sound, visit-later}
-use Rattle.visits.proofs.Paths.{visit-goes, enter-done}
-use Rattle.nodes.specs.Source.{Source, nodeOf, gatesOf, asksOf, firstOf, secondOf, thirdOf}
+use Rattle.visits.proofs.Paths.{enter-done}
+use Rattle.nodes.specs.Source.{Source, nodeOf, gatesOf, asksOf, secondOf, thirdOf}
 use Rattle.nodes.specs.Own.{ownStep}
 use Rattle.nodes.specs.Recipe.{recipe}
 use Rattle.nodes.specs.Asked.{Stands, Owns}

@@ -1,12 +1,12 @@
 // The lowering of any table: refusals 1 to 6, then 7, 8, 9, then 10; on success gates, constraints and bit map.
 ghost use mathlib.Core.Path.{_≡_};
-ghost use Prim.Native.Nat.{ℕ, _≤_};
+ghost use Prim.Native.Nat.{_≤_};
 ghost use lib.ListN.{length};
 ghost use Rattle.table.specs.declared.Fault.the-variants as fault;
 ghost use Rattle.table.specs.Sheet.{tableFault};
 ghost use Rattle.nodes.specs.Source.{source};
 ghost use Rattle.lowering.specs.Lower as spec;
-ghost use Rattle.lowering.specs.Lower.{run, lowered, ended, lowerClear, lowerAll, marked, Accepted};
+ghost use Rattle.lowering.specs.Lower.{run, lowered, ended, lowerClear, marked, Accepted};
 ghost use Rattle.lowering.specs.Promise.{Promise};
 use crate::fill::fill;
 use crate::root::lower_roots;

@@ -1,6 +1,6 @@
 // The lowering from the bad nodes, in table order.
 ghost use mathlib.Core.Path.{_≡_};
-ghost use Prim.Native.Nat.{ℕ, _+_, _≤_};
+ghost use Prim.Native.Nat.{_+_, _≤_};
 ghost use Rattle.table.specs.Node.{nodes};
 ghost use Rattle.visits.specs.Flow.{rootStep, lowerTo};
 ghost use Rattle.nodes.specs.Source.{source};

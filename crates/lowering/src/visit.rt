@@ -1,6 +1,5 @@
 // The visits: a node after what it leans on.
-ghost use mathlib.Core.Path.{_≡_};
-ghost use Prim.Native.Nat.{ℕ, _≤_};
+ghost use Prim.Native.Nat.{_≤_};
 ghost use Rattle.table.specs.Node.{nodes};
 ghost use Rattle.visits.specs.Claims.{Is};
 ghost use Rattle.nodes.specs.Source.{source, gatesOf, asksOf};

@@ -9,30 +9,28 @@ use lib.ListN.{length, getD, take, drop}
 use borrow.Author.Tests.{eq-eqb, ne-eqb, eqb-true, eqb-false}
 use Rattle.loops.specs.Loop.{pick, iter}
 use Rattle.loops.proofs.Loop.{by-pick, pick-true, pick-false}
-use Rattle.table.specs.declared.Fault.the-variants.{Clear}
 use Rattle.table.specs.declared.Unit.the-variants.{Bit}
-use Rattle.table.specs.Node.{nodes, nodeAt, widthOf, given}
-use Rattle.table.specs.Sheet.{tableFault}
-use Rattle.table.specs.Size.{Offsets, sizeOf}
+use Rattle.table.specs.Node.{nodes, widthOf, given}
+use Rattle.table.specs.Size.{Offsets}
 use Rattle.table.specs.Ceiling.{iteGates}
 use Rattle.table.specs.declared.Node.{Node}
 use Rattle.table.specs.Kind.{ITE}
-use Rattle.table.proofs.Whole.{within, Sound, Rule, is-const, is-input, is-state, is-not, is-bad, is-and, is-ext, is-eq, is-add, is-ite, is-sub, is-ult, is-mul, is-divu, is-rem, is-read, is-write}
+use Rattle.table.proofs.Whole.{within, Sound}
 use Rattle.netlist.specs.Bit.{isKnown}
 use Rattle.table.proofs.ceiling.ByKind.{top-given, top-ite}
 use Rattle.netlist.specs.Net.{Net}
 use Rattle.gates.specs.declared.made.At.{At}
-use Rattle.gates.specs.Made.{netOf, Fits}
-use Rattle.words.specs.Each.{Word, wordOf, putBits}
+use Rattle.gates.specs.Made.{Fits}
+use Rattle.words.specs.Each.{Word, putBits}
 use Rattle.visits.specs.Flow.{Core}
 use Rattle.visits.specs.Stored.{stored}
 use Rattle.nodes.specs.declared.place.Place.{Place}
-use Rattle.nodes.specs.Source.{Source, listed, nodeOf, wordsOf, wideOf, bitsOf, offOf, totalOf, gatesOf, wordAt, conditionOf, secondOf, thirdOf}
+use Rattle.nodes.specs.Source.{Source, listed, nodeOf, wordsOf, wideOf, offOf, gatesOf, wordAt, conditionOf, secondOf, thirdOf}
 use Rattle.nodes.specs.Own.{asIs, inputWord, shareWord, chooseWord, wordStep, eachWord, iteOwn}
 use Rattle.nodes.specs.Place.{placed, inputs, choices, shareAt}
 use Rattle.nodes.specs.Asked.{Stands, Makes, placeOf, coreAt, Turned, Mapped}
 use Rattle.nodes.proofs.Places.{word-words, word-wide, bits-size, bits-words, gates-of, off-inside, sound-of, part-at}
-use Rattle.nodes.proofs.ShapeLaws.{second-else, third-else}
+use Rattle.nodes.proofs.ShapeLaws.{chosen, second-else, third-else}
 use Rattle.nodes.proofs.ShareLaws.{same-words, same-wide}
 use Rattle.nodes.proofs.StepLaws.{wide-small}
 
@@ -143,26 +141,7 @@ share-turn S k x p q m m′ h j e = λ s c nc stop.
     ap {B = Core} (λ (l : List ℕ). coreAt s c nc l stop) (rw (h, j) at e)
     ∙ along {B = Core} (λ (l : List ℕ). coreAt s c nc l stop) (shareAt (offOf S x) (wideOf S x) (offOf S k) (wideOf S k)) (wordStep S k (shareWord S x)) (share-along S k x s c nc stop) (wordsOf S k) m
 
--- an ite: a condition one bit wide, and two sides of its own sort
-chosen : {w : ℕ} {d : Node} {va vb vc : ℕ} → Rule w d va vb vc → d .kind ≡ ITE → (va ≡ 1) × (vb ≡ d .width) × (vc ≡ d .width)
-chosen (is-ite e a b c) h = (a, b, c)
-chosen (is-const e a b) h = absurd (omega arith)
-chosen (is-input e) h = absurd (omega arith)
-chosen (is-state e a) h = absurd (omega arith)
-chosen (is-not e a b) h = absurd (omega arith)
-chosen (is-bad e a b) h = absurd (omega arith)
-chosen (is-and e s) h = absurd (omega arith)
-chosen (is-ext e a b) h = absurd (omega arith)
-chosen (is-eq e s) h = absurd (omega arith)
-chosen (is-add e s) h = absurd (omega arith)
-chosen (is-sub e s) h = absurd (omega arith)
-chosen (is-ult e s) h = absurd (omega arith)
-chosen (is-mul e s) h = absurd (omega arith)
-chosen (is-divu e s) h = absurd (omega arith)
-chosen (is-rem e s) h = absurd (omega arith)
-chosen (is-read e a b c) h = absurd (omega arith)
-chosen (is-write e a b c f) h = absurd (omega arith)
-
+-- an ite's operands
 pub record Sided (S : Source) (k : ℕ) : Type 0 where
   pub a-some : 1 ≤ nodeOf S k .a
   pub a-less : nodeOf S k .a < k

@@ -1,9 +1,6 @@
 -- The laws that the steps of reads, writes and divisions ask for hold of every table without fault.
-use mathlib.Core.Path.{_≡_}
-use mathlib.Core.List.{List}
-use Prim.Native.Nat.{ℕ, _*_, _≤_}
+use Prim.Native.Nat.{_≤_}
 use native.Mathlib.Omega.{arith}
-use lib.ListN.{length}
 use Rattle.table.proofs.Whole.{within}
 use Rattle.words.proofs.NumLaws.{blank-long}
 use Rattle.memory.proofs.ReadLaws.{read-law}

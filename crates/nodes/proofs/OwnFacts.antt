@@ -1,27 +1,24 @@
 -- What a table without fault gives to the code that tells a node's own step by its kind.
-use mathlib.Core.Path.{_≡_, refl, ap, sym, _∙_, subst}
+use mathlib.Core.Path.{_≡_, ap, sym, _∙_, subst}
 use mathlib.Core.List.{List}
-use mathlib.Core.Logic.{_⊎_, inl, inr}
-use mathlib.Core.Bool.{Bool, true, false}
-use Prim.Native.Nat.{ℕ, _+_, _≤_, _<_}
+use mathlib.Core.Logic.{inl, inr}
+use mathlib.Core.Bool.{true, false}
+use Prim.Native.Nat.{ℕ, _≤_, _<_}
 use native.Mathlib.Omega.{arith}
-use lib.Dec.{eqb}
 use lib.ListN.{length}
 use borrow.Author.Tests.{eq-eqb, ne-eqb}
 use Rattle.loops.proofs.Loop.{pick-true, pick-false}
 use Rattle.table.specs.declared.Node.{Node}
-use Rattle.table.specs.Kind.{STATE, ITE, READ, WRITE, divides}
+use Rattle.table.specs.Kind.{ITE, READ, WRITE, divides}
 use Rattle.table.specs.Node.{widthOf, given}
-use Rattle.table.proofs.Whole.{Sound, Operands, Rule, is-const, is-input, is-state, is-not, is-bad, is-and, is-ext, is-eq, is-add, is-ite, is-sub, is-ult, is-mul, is-divu, is-rem, is-read, is-write}
+use Rattle.table.proofs.Whole.{Sound, Rule, is-const, is-input, is-state, is-not, is-bad, is-and, is-ext, is-eq, is-add, is-ite, is-sub, is-ult, is-mul, is-divu, is-rem, is-read, is-write}
 use Rattle.values.proofs.Seen.{initial}
 use Rattle.netlist.specs.Net.{Net}
-use Rattle.gates.specs.declared.made.At.{At}
-use Rattle.gates.specs.Made.{netOf, Fits}
 use Rattle.visits.specs.Flow.{Core}
 use Rattle.nodes.specs.declared.own.Progress.{Progress}
-use Rattle.nodes.specs.Source.{Source, nodeOf, wordsOf, gatesOf, blockedOf}
+use Rattle.nodes.specs.Source.{Source, nodeOf, wordsOf, blockedOf}
 use Rattle.nodes.specs.Own.{shares, eachWord, inputWord, shareWord, readWord, wordOwn, iteOwn, divideOwn, writeOwn, madeBy, ownStep}
-use Rattle.nodes.specs.Asked.{Stands, Makes, Owns, Plain, coreAt, coreOf, Turned, Mapped, Counted}
+use Rattle.nodes.specs.Asked.{Stands, Makes, Owns, Plain, coreAt, coreOf, Turned, Mapped}
 use Rattle.nodes.proofs.Places.{word-words, sound-of}
 use Rattle.nodes.proofs.ShareLaws.{same-words}
 use Rattle.nodes.proofs.OwnKinds.{by-input, by-share, by-ite, by-divide, by-read, by-write, by-word}

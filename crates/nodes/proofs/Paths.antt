@@ -1,13 +1,13 @@
 -- What the code's calls come to, path by path, over the definitions alone: a proof of the code cites each by its bare name in `search`.
-use mathlib.Core.Path.{_≡_, refl, ap, sym, _∙_}
+use mathlib.Core.Path.{_≡_, refl, ap, _∙_}
 use mathlib.Core.List.{List}
 use mathlib.Core.Bool.{Bool}
-use Prim.Native.Nat.{ℕ, zero, suc, _+_, _*_, _-_, _≤_, _<_}
+use Prim.Native.Nat.{ℕ, _+_, _*_, _-_, _≤_}
 use native.Mathlib.Omega.{arith}
-use native.Mathlib.Nat.{mul-le-mul-right, mul-assoc}
+use native.Mathlib.Nat.{mul-assoc}
 use lib.ListN.{length, getD, set, take, drop}
 use borrow.Author.Tests.{ne-eqb}
-use Rattle.loops.specs.Loop.{pick, iter, sum}
+use Rattle.loops.specs.Loop.{pick, iter}
 use Rattle.loops.proofs.Loop.{iter-inv}
 use Rattle.table.specs.declared.Node.{Node}
 use Rattle.table.specs.Kind.{CONST, NOT, AND, EQ, ADD, SUB, ULT, MUL}
@@ -15,13 +15,13 @@ use Rattle.table.specs.Ceiling.{ceiling}
 use Rattle.table.proofs.ceiling.ByKind.{top-mul}
 use Rattle.netlist.specs.Net.{Net}
 use Rattle.gates.specs.declared.made.At.{At}
-use Rattle.gates.specs.Made.{MadeBit, netOf, madeOf, added, gateInputBit, Fits}
+use Rattle.gates.specs.Made.{MadeBit, netOf, madeOf, added, gateInputBit}
 use Rattle.words.specs.declared.each.Bitwise.the-variants as op
 use Rattle.words.specs.Num.{blank}
 use Rattle.words.specs.Each.{Word, wordOf, eachBit, eachCost, bitCost, putBits}
 use Rattle.digits.specs.Digits.{putDigits}
 use Rattle.words.specs.Add.{Chain, chainOf, addWords}
-use Rattle.words.specs.Sub.{subWords, ultWords, widened}
+use Rattle.words.specs.Sub.{subWords, ultWords}
 use Rattle.words.specs.Eq.{eqWords}
 use Rattle.words.specs.Mul.{mulWords, mulCost}
 use Rattle.words.proofs.NumLaws.{blank-long}
@@ -30,13 +30,10 @@ use Rattle.words.proofs.EachLaws.{each-ext}
 use Rattle.gates.proofs.FoldLaws.{not-cost as one-not}
 use Rattle.division.specs.Rows.{Checked, checkedOf}
 use Rattle.division.specs.Divide.{divideWords}
-use Rattle.nodes.specs.Own.{fresh, asIs, ofBit, ofChain, inputStep, plainWord}
+use Rattle.nodes.specs.Own.{fresh, asIs, ofChain, inputStep, plainWord}
 use Rattle.nodes.specs.Place.{placed, inputs, choices, shareAt, inFront, plainAt, divideAt}
 
 -- word i of several lies among them
-pub word-within : (i words w : ℕ) → i < words → i * w + w ≤ words * w
-word-within i words w l = omega (arith, mul-le-mul-right {m = suc i} {n = words} w l)
-
 pub word-next : (i w : ℕ) → (i + 1) * w ≡ i * w + w
 word-next i w = omega arith
 

@@ -4,7 +4,7 @@ use mathlib.Core.List.{List}
 use mathlib.Core.Bool.{Bool, true, false}
 use Prim.Native.Nat.{ℕ, zero, suc, _+_, _-_, _*_, _≤_, _<_}
 use native.Mathlib.Omega.{arith}
-use native.Mathlib.Decide.{decLt}
+use native.Mathlib.Nat.{mul-le-mul-right}
 use native.Mathlib.Numerals.{add-one}
 use lib.Dec.{eqb}
 use lib.ListN.{getD, take, drop}
@@ -27,12 +27,7 @@ use Rattle.nodes.specs.Recipe.{recipe}
 
 -- one part more of w is still within n parts
 pub part-within : (i n w : ℕ) → i < n → i * w + w ≤ n * w
-part-within i zero w h = absurd (omega arith)
-part-within i (suc n) w h = go (part-within i n w) (decLt i n)
-  where
-    go : (i < n → i * w + w ≤ n * w) → Dec (i < n) → i * w + w ≤ suc n * w
-    go ih (yes q) = omega (arith, ih q)
-    go ih (no q) = let e : i ≡ n = omega arith in rw e (omega arith)
+part-within i n w h = omega (arith, mul-le-mul-right {m = suc i} {n = n} w h)
 
 -- a word is one word of its width, a memory one of W for each listed address
 module _ (S : Source) (x : ℕ) where

@@ -1,6 +1,6 @@
 -- The law of values of every node's own step (demand 2): under a considered assignment at which the operands' bits are right, the new constraints
 -- are met exactly if the divisor is not zero and the new free gates have their right values; and then the node's bits are right.
-use mathlib.Core.Path.{_≡_, refl, ap, _∙_}
+use mathlib.Core.Path.{_≡_, refl, ap}
 use mathlib.Core.List.{List}
 use mathlib.Core.Logic.{_⊎_, inl, inr}
 use mathlib.Core.Bool.{Bool, true, false}

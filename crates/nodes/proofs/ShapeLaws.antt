@@ -60,25 +60,25 @@ divided (is-write e a b c f) h = absurd (false≢true (rw e at h))
 pub divides-two : (k : ℕ) → divides k ≡ true → usesB k ≡ true
 divides-two k h = either (eqb k DIVU) (eqb k REM) (usesB k ≡ true) (λ e. rw (eqb-true k DIVU e)) (λ e. rw (eqb-true k REM e)) h
 
--- the condition of an ite is one bit
-pub conditioned : {w : ℕ} {d : Node} {va vb vc : ℕ} → Rule w d va vb vc → d .kind ≡ ITE → va ≡ 1
-conditioned (is-const e a b) h = absurd (omega arith)
-conditioned (is-input e) h = absurd (omega arith)
-conditioned (is-state e a) h = absurd (omega arith)
-conditioned (is-not e a b) h = absurd (omega arith)
-conditioned (is-bad e a b) h = b
-conditioned (is-and e s) h = absurd (omega arith)
-conditioned (is-ext e a b) h = absurd (omega arith)
-conditioned (is-eq e s) h = absurd (omega arith)
-conditioned (is-add e s) h = absurd (omega arith)
-conditioned (is-ite e a b c) h = a
-conditioned (is-sub e s) h = absurd (omega arith)
-conditioned (is-ult e s) h = absurd (omega arith)
-conditioned (is-mul e s) h = absurd (omega arith)
-conditioned (is-divu e s) h = absurd (omega arith)
-conditioned (is-rem e s) h = absurd (omega arith)
-conditioned (is-read e a b c) h = absurd (omega arith)
-conditioned (is-write e a b c f) h = absurd (omega arith)
+-- an ite: a condition one bit wide, and two sides of its own sort
+pub chosen : {w : ℕ} {d : Node} {va vb vc : ℕ} → Rule w d va vb vc → d .kind ≡ ITE → (va ≡ 1) × (vb ≡ d .width) × (vc ≡ d .width)
+chosen (is-ite e a b c) h = (a, b, c)
+chosen (is-const e a b) h = absurd (omega arith)
+chosen (is-input e) h = absurd (omega arith)
+chosen (is-state e a) h = absurd (omega arith)
+chosen (is-not e a b) h = absurd (omega arith)
+chosen (is-bad e a b) h = absurd (omega arith)
+chosen (is-and e s) h = absurd (omega arith)
+chosen (is-ext e a b) h = absurd (omega arith)
+chosen (is-eq e s) h = absurd (omega arith)
+chosen (is-add e s) h = absurd (omega arith)
+chosen (is-sub e s) h = absurd (omega arith)
+chosen (is-ult e s) h = absurd (omega arith)
+chosen (is-mul e s) h = absurd (omega arith)
+chosen (is-divu e s) h = absurd (omega arith)
+chosen (is-rem e s) h = absurd (omega arith)
+chosen (is-read e a b c) h = absurd (omega arith)
+chosen (is-write e a b c f) h = absurd (omega arith)
 
 -- the operands that are read, by kind
 module _ (S : Source) (m : List ℕ) (k : ℕ) where
@@ -103,7 +103,7 @@ module _ (S : Source) (clear : tableFault (S .table) (S .addrs) (S .word) ≡ Cl
     cond-same : nodeOf S k .kind ≡ ITE → Same (recipe S) m t (firstOf S k) → conditionOf S t k ≡ conditionOf S m k
     cond-same h same =
         let n : Sound (S .table) (S .word) k = sound-of S clear k is in
-        let one : widthOf (S .table) (nodeOf S k .a) ≡ 1 = conditioned (n .sort) h in
+        let one : widthOf (S .table) (nodeOf S k .a) ≡ 1 = chosen (n .sort) h .0 in
         word-same S m t (nodeOf S k .a) (n .operands .a-used (rw h)) (omega arith) same 0 (omega (arith, word-wide S (nodeOf S k .a) (omega arith)))
 
     second-same : Same (recipe S) m t (firstOf S k) → secondOf S t k ≡ secondOf S m k

@@ -3,22 +3,21 @@ use mathlib.Core.Path.{_≡_, refl, ap, sym, _∙_, subst}
 use mathlib.Core.List.{List}
 use mathlib.Core.Logic.{_⊎_, inl, inr}
 use mathlib.Core.Bool.{Bool, true, false}
-use Prim.Native.Nat.{ℕ, zero, suc, _+_, _*_, _-_, _≤_, _<_}
+use Prim.Native.Nat.{ℕ, _+_, _*_, _-_, _≤_, _<_}
 use native.Mathlib.Omega.{arith}
-use lib.Dec.{eqb}
 use lib.ListN.{length, getD, take, drop}
 use borrow.Author.Tests.{eq-eqb, ne-eqb}
-use Rattle.loops.specs.Loop.{pick, iter}
+use Rattle.loops.specs.Loop.{iter}
 use Rattle.loops.proofs.Loop.{pick-true, pick-false}
 use Rattle.table.specs.declared.Node.{Node}
 use Rattle.table.specs.Kind.{CONST, NOT, usesA, usesB, compares}
-use Rattle.table.specs.Node.{nodes, nodeAt, widthOf}
+use Rattle.table.specs.Node.{nodes, widthOf}
 use Rattle.table.specs.Ceiling.{ceiling}
-use Rattle.table.proofs.Whole.{Operands, Sound, Rule, is-const, is-input, is-state, is-not, is-bad, is-and, is-ext, is-eq, is-add, is-ite, is-sub, is-ult, is-mul, is-divu, is-rem, is-read, is-write}
+use Rattle.table.proofs.Whole.{Sound, Rule, is-const, is-input, is-state, is-not, is-bad, is-and, is-ext, is-eq, is-add, is-ite, is-sub, is-ult, is-mul, is-divu, is-rem, is-read, is-write}
 use Rattle.table.proofs.ceiling.ByKind.{top-not, top-and, top-eq, top-add, top-sub, top-ult, top-mul}
 use Rattle.netlist.specs.Net.{Net}
 use Rattle.gates.specs.declared.made.At.{At}
-use Rattle.gates.specs.Made.{netOf, Fits}
+use Rattle.gates.specs.Made.{Fits}
 use Rattle.digits.specs.Digits.{putDigits}
 use Rattle.words.specs.Num.{blank}
 use Rattle.words.specs.declared.each.Bitwise.the-variants as op
@@ -27,9 +26,9 @@ use Rattle.visits.specs.Flow.{Core}
 use Rattle.visits.specs.Stored.{stored}
 use Rattle.nodes.specs.declared.place.Place.{Place}
 use Rattle.nodes.specs.Source.{Source, listed, nodeOf, wordsOf, wideOf, offOf, gatesOf, wordAt}
-use Rattle.nodes.specs.Own.{asIs, fresh, plainWord, wordOwn, wordStep, eachWord}
+use Rattle.nodes.specs.Own.{asIs, plainWord, wordOwn, wordStep, eachWord}
 use Rattle.nodes.specs.Place.{plainAt}
-use Rattle.nodes.specs.Asked.{Stands, Makes, Plain, rightOf, placeOf, coreAt, Turned}
+use Rattle.nodes.specs.Asked.{Makes, Plain, rightOf, placeOf, coreAt, Turned}
 use Rattle.nodes.proofs.Places.{word-words, word-wide, gates-of, sound-of}
 use Rattle.nodes.proofs.StepLaws.{wide-small}
 use Rattle.nodes.proofs.Paths.{plain-const, plain-not}
@@ -169,9 +168,6 @@ module _ (S : Source) (o g : List ℕ) (a : At) (long k : ℕ) (h : Makes S o g 
       go (number f w) = absurd (ne f)
       go (ofOne f w) = one-two f w
       go (ofTwo f u v w) = two-two f u v w
-
-  wide-of : (x : ℕ) → 1 ≤ widthOf (S .table) x → wideOf S x ≡ widthOf (S .table) x
-  wide-of x = word-wide S x
 
   module _ (t : Two (nodeOf S k)) where
     left-wide : wideOf S (nodeOf S k .a) ≡ widthOf (S .table) (nodeOf S k .a)

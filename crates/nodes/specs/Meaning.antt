@@ -4,7 +4,6 @@ use mathlib.Core.Bool.{Bool, _&&_}
 use Prim.Native.Nat.{ℕ, _+_, _/_, _%_}
 use lib.Dec.{eqb}
 use lib.ListN.{getD}
-use Rattle.table.specs.declared.Node.{Node}
 use Rattle.table.specs.Kind.{divides}
 use Rattle.values.specs.Value.{divWord, remWord}
 use Rattle.values.specs.Eval.{offset}

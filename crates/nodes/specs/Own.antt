@@ -1,16 +1,16 @@
 -- A node's own gates and bits, kind by kind: document 01's recipe over the bit map.
-use mathlib.Core.List.{List, [], _∷_}
-use mathlib.Core.Bool.{Bool, true, false, _&&_, _||_}
+use mathlib.Core.List.{List}
+use mathlib.Core.Bool.{Bool, false, _||_}
 use Prim.Native.Nat.{ℕ, _+_, _*_}
 use lib.Dec.{eqb}
-use lib.ListN.{getD, set, length, take, drop}
+use lib.ListN.{set}
 use Rattle.loops.specs.Loop.{pick, iter}
 use Rattle.table.specs.declared.Node.{Node}
 use Rattle.table.specs.Kind.{CONST, STATE, NOT, BAD, AND, EXT, EQ, ADD, ITE, SUB, ULT, MUL, DIVU, READ, WRITE, divides}
 use Rattle.table.specs.Node.{given}
 use Rattle.netlist.specs.Net.{Net}
 use Rattle.netlist.specs.Bit.{isKnown}
-use Rattle.gates.specs.Made.{MadeBit, kept, added, gateInputBit}
+use Rattle.gates.specs.Made.{MadeBit, added, gateInputBit}
 use Rattle.digits.specs.Digits.{putDigits}
 use Rattle.words.specs.declared.each.Bitwise.the-variants as op
 use Rattle.words.specs.Num.{blank}

@@ -1,5 +1,5 @@
 -- What the visits take of a table.
-use Prim.Native.Nat.{ℕ, _+_}
+use Prim.Native.Nat.{_+_}
 use Rattle.table.specs.Node.{nodes, given}
 use Rattle.visits.specs.Flow.{Recipe}
 use Rattle.nodes.specs.Source.{Source, nodeOf, bitsOf, offOf, totalOf, gatesOf, asksOf, firstOf, secondOf, thirdOf, blockedOf, badOf}

@@ -6,7 +6,7 @@ use lib.Dec.{eqb}
 use lib.ListN.{getD, length, take, drop}
 use Rattle.loops.specs.Loop.{pick}
 use Rattle.table.specs.declared.Node.{Node}
-use Rattle.table.specs.declared.Unit.the-variants.{Bit, Slot}
+use Rattle.table.specs.declared.Unit.the-variants.{Bit}
 use Rattle.table.specs.Kind.{BAD, ITE, divides}
 use Rattle.table.specs.Node.{nodes, nodeAt, widthOf}
 use Rattle.table.specs.Size.{sizeOf, offsetOf, sizeSum}

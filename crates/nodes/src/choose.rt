@@ -1,6 +1,6 @@
 // An ite with an unknown condition: a choice at each bit.
 ghost use mathlib.Core.Path.{_≡_};
-ghost use Prim.Native.Nat.{ℕ, _+_, _*_, _≤_, _<_};
+ghost use Prim.Native.Nat.{_+_, _*_, _≤_, _<_};
 ghost use lib.ListN.{length};
 ghost use Rattle.loops.specs.Loop.{iter};
 ghost use Rattle.gates.specs.Made.{netOf, Fits};

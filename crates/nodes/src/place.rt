@@ -1,6 +1,6 @@
 // Where a node's bits stand in the bit map.
 ghost use mathlib.Core.Path.{_≡_};
-ghost use Prim.Native.Nat.{ℕ, _+_, _≤_, _<_};
+ghost use Prim.Native.Nat.{_≤_};
 ghost use lib.ListN.{length};
 ghost use Rattle.table.specs.declared.Unit.the-variants.{Bit};
 ghost use Rattle.table.specs.Node.{nodes};

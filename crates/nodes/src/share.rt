@@ -1,6 +1,6 @@
 // An initialised state, a bad, an ext, an ite with a known condition: the operand's bits are shared.
 ghost use mathlib.Core.Path.{_≡_};
-ghost use Prim.Native.Nat.{ℕ, _+_, _*_, _≤_, _<_};
+ghost use Prim.Native.Nat.{_+_, _*_, _≤_, _<_};
 ghost use lib.ListN.{length};
 ghost use Rattle.loops.specs.Loop.{iter};
 ghost use Rattle.nodes.specs.Source.{source, wordsOf};

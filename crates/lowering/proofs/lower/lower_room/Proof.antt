@@ -3,8 +3,7 @@ use mathlib.Core.List.{_++_}
 use Rattle.lowering.proofs.LowerFacts.{offsets-asks, marks-room, map-room, begins, lent-long, ended-done, ended-stopped, zeroed}
 use Rattle.nodes.specs.Source.{source}
 use lib.Seq.{length-take-le}
-use native.Mathlib.Omega.{arith}
-use mathlib.Core.Path.{_≡_, sym}
+use mathlib.Core.Path.{sym}
 use borrow.Author.Needs.{needs}
 use Rattle.lowering.proofs.lower.lower_room.Statement.{statement}
 use Rattle.lowering.proofs.lower.lower_room.Tie as tie

@@ -7,7 +7,8 @@ use Rattle.loops.specs.Loop.{iter}
 use Rattle.loops.proofs.Loop.{loop-none, loop-more, loop-done}
 use Rattle.words.specs.Each.{wordOf}
 use Rattle.nodes.specs.Place.{placed, choices}
-use Rattle.nodes.proofs.Paths.{word-within, word-next, choose-words-next}
+use Rattle.nodes.proofs.Places.{part-within}
+use Rattle.nodes.proofs.Paths.{word-next, choose-words-next}
 use Rattle.nodes.proofs.choose.choose_words.Statement.{statement}
 use Rattle.nodes.proofs.choose.choose_words.Tie as tie
 use Rattle.nodes.proofs.choose.choose_words.Reads as reads
@@ -24,7 +25,7 @@ loop-holds : tie.Need-loop-holds Inv-loop μ-loop
 loop-holds c = search (needs, loop-none)
 
 choose-word-requires : tie.Need-choose-word-requires Inv-loop μ-loop
-choose-word-requires c κs = omega (arith, word-within (c .before .before .before .loop .i) (c .before .before .before .before .before .before .args .words) (c .before .before .before .before .before .before .args .w) (c .before .before .loop-test .taken))
+choose-word-requires c κs = omega (arith, part-within (c .before .before .before .loop .i) (c .before .before .before .before .before .before .args .words) (c .before .before .before .before .before .before .args .w) (c .before .before .loop-test .taken))
 
 add-i : tie.Need-add-i Inv-loop μ-loop
 add-i c = search needs

@@ -1,6 +1,5 @@
 use Rattle.nodes.specs.Source.{source}
 use Rattle.nodes.proofs.Facts.{input-asks, input-turn}
-use native.Mathlib.Omega.{arith}
 use borrow.Author.Needs.{needs}
 use Rattle.nodes.proofs.input.input_node.Statement.{statement}
 use Rattle.nodes.proofs.input.input_node.Tie as tie

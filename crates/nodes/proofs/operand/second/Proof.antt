@@ -1,4 +1,3 @@
-use borrow.Author.Needs.{needs}
 use mathlib.Core.Path.{sym}
 use Rattle.loops.proofs.Loop.{pick-true, pick-false}
 use Rattle.nodes.proofs.operand.second.Statement.{statement}

@@ -1,6 +1,6 @@
 use Rattle.nodes.proofs.OwnFacts.{given-asks, share-asks, input-made, share-made, ite-made, read-made, write-made, word-made, plainly}
 use Rattle.nodes.specs.Source.{source}
-use mathlib.Core.Path.{_≡_, sym, _∙_}
+use mathlib.Core.Path.{sym, _∙_}
 use borrow.Author.Needs.{needs}
 use Rattle.nodes.proofs.own.make.Statement.{statement}
 use Rattle.nodes.proofs.own.make.Tie as tie

@@ -1,7 +1,7 @@
 use Rattle.nodes.proofs.OwnFacts.{makes, own-stopped, own-blocked, own-made, own-divided}
 use Rattle.nodes.specs.Asked.{coreOf}
 use Rattle.nodes.specs.Source.{source}
-use mathlib.Core.Path.{_≡_, sym, _∙_}
+use mathlib.Core.Path.{sym, _∙_}
 use borrow.Author.Needs.{needs}
 use Rattle.nodes.proofs.own.own_step.Statement.{statement}
 use Rattle.nodes.proofs.own.own_step.Tie as tie

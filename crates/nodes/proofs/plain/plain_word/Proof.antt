@@ -1,8 +1,7 @@
 use mathlib.Core.Path.{refl, ap}
-use Prim.Native.Nat.{ℕ}
 use native.Mathlib.Omega.{arith}
 use Rattle.table.specs.Kind.{compares}
-use Rattle.table.proofs.ceiling.ByKind.{top-not, top-and, top-eq, top-add, top-sub, top-ult, top-mul}
+use Rattle.table.proofs.ceiling.ByKind.{top-not, top-and, top-eq, top-add, top-sub, top-ult}
 use Rattle.nodes.proofs.Paths.{blank-room, not-cost, and-cost, plain-not, plain-and, plain-eq, plain-add, plain-sub, plain-ult, plain-mul, plain-none, plain-mul-room}
 use borrow.Author.Needs.{needs}
 use Rattle.nodes.proofs.plain.plain_word.Statement.{statement}

@@ -1,6 +1,5 @@
 use Rattle.nodes.specs.Source.{source}
 use Rattle.nodes.proofs.Facts.{share-asks, share-turn}
-use native.Mathlib.Omega.{arith}
 use borrow.Author.Needs.{needs}
 use Rattle.nodes.proofs.share.share_node.Statement.{statement}
 use Rattle.nodes.proofs.share.share_node.Tie as tie

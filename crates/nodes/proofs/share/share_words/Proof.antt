@@ -1,4 +1,4 @@
-use Prim.Native.Nat.{_≤_, _-_, _+_}
+use Prim.Native.Nat.{_≤_, _-_}
 use mathlib.Core.Path.{_≡_}
 use borrow.Author.Needs.{needs}
 use native.Mathlib.Omega.{arith}
@@ -6,7 +6,7 @@ use lib.ListN.{length}
 use Rattle.loops.specs.Loop.{iter}
 use Rattle.loops.proofs.Loop.{loop-none, loop-more, loop-done}
 use Rattle.nodes.specs.Place.{shareAt}
-use Rattle.nodes.proofs.Paths.{word-within}
+use Rattle.nodes.proofs.Places.{part-within}
 use Rattle.nodes.proofs.share.share_words.Statement.{statement}
 use Rattle.nodes.proofs.share.share_words.Tie as tie
 use Rattle.nodes.proofs.share.share_words.Reads as reads
@@ -23,7 +23,7 @@ loop-holds : tie.Need-loop-holds Inv-loop μ-loop
 loop-holds c = search (needs, loop-none)
 
 share-word-requires : tie.Need-share-word-requires Inv-loop μ-loop
-share-word-requires c κs = omega (arith, word-within (c .before .before .loop .i) (c .before .before .before .before .args .words) (c .before .before .before .before .args .v) (c .before .loop-test .taken), word-within (c .before .before .loop .i) (c .before .before .before .before .args .words) (c .before .before .before .before .args .w) (c .before .loop-test .taken))
+share-word-requires c κs = omega (arith, part-within (c .before .before .loop .i) (c .before .before .before .before .args .words) (c .before .before .before .before .args .v) (c .before .loop-test .taken), part-within (c .before .before .loop .i) (c .before .before .before .before .args .words) (c .before .before .before .before .args .w) (c .before .loop-test .taken))
 
 add-i : tie.Need-add-i Inv-loop μ-loop
 add-i c = search needs
