@@ -7,14 +7,14 @@ use Prim.Native.Nat.{ℕ, zero, suc, _+_, _*_, _-_, _^_, _/_, _%_, _≤_, _<_}
 use native.Mathlib.Omega.{arith}
 use native.Mathlib.Nat.{zero-add, mul-add-div-right, mul-add-mod-self-right, div-eq-of-lt, mod-eq-of-lt}
 use lib.Dec.{ltb}
-use lib.ListN.{length, getD}
+use lib.ListN.{getD}
 use borrow.Author.Tests.{ltb-true, lt-ltb}
-use Rattle.loops.specs.Loop.{iter, sum, bit}
+use Rattle.loops.specs.Loop.{sum, bit}
 use Rattle.netlist.specs.Record.{Room}
 use Rattle.netlist.specs.Kind.{xor}
-use Rattle.netlist.specs.Net.{Net, Assign, Obeys}
+use Rattle.netlist.specs.Net.{Assign, Obeys}
 use Rattle.gates.specs.Made.{MadeBit}
-use Rattle.gates.specs.Law.{Ext, Formed, BitLaw}
+use Rattle.gates.specs.Law.{Ext, Formed}
 use Rattle.gates.proofs.Laws as gates
 use Rattle.gates.proofs.Laws.{ext-trans, ext-weaken, keeps}
 use Rattle.gates.proofs.FoldLaws.{xnor-cost}
@@ -32,7 +32,7 @@ use Rattle.words.proofs.EachLaws.{each-law, below-more}
 use Rattle.words.proofs.SubLaws.{ult-law}
 use Rattle.words.proofs.MulLaws.{placed-law}
 use Rattle.words.proofs.MulLaws as mul
-use Rattle.division.specs.Constraint.{Cons, ConRoom, constrain, constrainEach, Holds, Within, More, ConLaw}
+use Rattle.division.specs.Constraint.{Cons, constrain, constrainEach, More, ConLaw}
 use Rattle.division.specs.Rows.{Checked, divRows, rowsCost, rowsCount, RowsLaw}
 use Rattle.division.specs.Check.{Book, sumWords, checkWords, Divides, sumCost, sumCount, checkCost, conCount, CheckLaw}
 use Rattle.division.proofs.ConstraintLaws.{more-trans, more-as, room-back, holds-split, within-join, one-law, then-law, All}

@@ -1,14 +1,13 @@
 -- The laws of constraints.
-use mathlib.Core.Path.{_≡_, refl, ap, sym, _∙_}
+use mathlib.Core.Path.{_≡_, refl, _∙_}
 use mathlib.Core.List.{List}
 use mathlib.Core.Logic.{_↔_}
-use mathlib.Core.Bool.{Bool, true, false}
-use Prim.Native.Nat.{ℕ, zero, suc, _+_, _*_, _≤_, _<_}
+use Prim.Native.Nat.{ℕ, suc, _+_, _*_, _≤_, _<_}
 use native.Mathlib.Omega.{arith}
 use native.Mathlib.Decide.{decLt}
 use lib.ListN.{length, getD, set, length-set}
 use lib.Seq.{getD-set-same, getD-set-other}
-use Rattle.loops.specs.Loop.{iter, bit}
+use Rattle.loops.specs.Loop.{bit}
 use Rattle.loops.proofs.Loop.{iter-inv}
 use Rattle.netlist.specs.Net.{Assign}
 use Rattle.digits.specs.Digits.{Below}

@@ -1,24 +1,21 @@
 -- The law of a division by gates.
-use mathlib.Core.Path.{_≡_, refl, ap, sym, _∙_}
+use mathlib.Core.Path.{_≡_, refl, _∙_}
 use mathlib.Core.List.{List}
-use mathlib.Core.Bool.{Bool, true, false, _&&_}
-use Prim.Native.Nat.{ℕ, zero, suc, _+_, _*_, _-_, _/_, _≤_, _<_}
+use mathlib.Core.Bool.{Bool, _&&_}
+use Prim.Native.Nat.{ℕ, _+_, _*_, _-_, _≤_}
 use native.Mathlib.Omega.{arith}
-use lib.ListN.{length, getD}
 use Rattle.loops.proofs.Loop.{by-pick}
-use Rattle.netlist.specs.Record.{gateAt, Room}
-use Rattle.netlist.specs.Net.{Net, Assign, Obeys}
-use Rattle.gates.specs.Law.{Grows, Formed}
+use Rattle.netlist.specs.Record.{Room}
 use Rattle.gates.proofs.Laws.{grows-trans, grows-weaken, room-back}
 use Rattle.digits.specs.Digits.{Below, allKnown}
-use Rattle.words.specs.Num.{num, blank}
+use Rattle.words.specs.Num.{blank}
 use Rattle.words.specs.Mul.{mulCost}
 use Rattle.words.proofs.NumLaws.{blank-long}
 use Rattle.words.proofs.EachLaws.{below-more}
 use Rattle.division.specs.Rows.{Checked}
 use Rattle.division.specs.Check.{Book, checkWords, checkCost, conCount, CheckLaw}
 use Rattle.division.specs.Pair.{Pair, pairWords, PairLaw}
-use Rattle.division.specs.Divide.{Divided, divWords, freeWord, divideWords, divCost, DivLaw}
+use Rattle.division.specs.Divide.{divWords, freeWord, divideWords, divCost, DivLaw}
 use Rattle.division.proofs.CheckLaws.{check-law}
 use Rattle.division.proofs.PairLaws.{pair-law}
 

@@ -1,25 +1,23 @@
 -- Known operands, divided as numbers.
-use mathlib.Core.Path.{_≡_, refl, ap, sym, _∙_}
+use mathlib.Core.Path.{_≡_}
 use mathlib.Core.List.{List}
-use mathlib.Core.Bool.{Bool, true, false}
+use mathlib.Core.Bool.{Bool}
 use Prim.Native.Nat.{ℕ, zero, suc, _+_, _*_, _-_, _^_, _/_, _%_, _≤_, _<_}
 use native.Mathlib.Omega.{arith}
 use native.Mathlib.Nat.{div-le-self, mod-le, mul-add-div, div-eq-of-lt}
 use lib.Dec.{eqb}
-use lib.ListN.{length, getD}
-use Rattle.loops.specs.Loop.{pick}
+use lib.ListN.{length}
 use Rattle.loops.proofs.Loop.{by-pick}
-use Rattle.netlist.specs.Net.{Net, Assign, Obeys}
-use Rattle.digits.specs.Digits.{digit, Below, knownBits, knownNumber, putDigits}
+use Rattle.digits.specs.Digits.{knownBits, knownNumber, putDigits}
 use Rattle.digits.proofs.Numbers.{pow-pos, digit-lt, number-lt}
 use Rattle.digits.proofs.Words as digits
-use Rattle.words.specs.Num.{num}
 use Rattle.words.proofs.NumLaws.{num-known, num-digits}
 use Rattle.words.proofs.AddLaws.{pow-add}
-use Rattle.division.specs.Known.{divuOf, remOf, answerOf, knownWord, KnownLaw}
+use Rattle.division.specs.Known.{answerOf, knownWord, KnownLaw}
+use Rattle.values.specs.Value.{divWord, remWord}
 
 answer-less : (quotient : Bool) (w n d : ℕ) → n < 2 ^ w → answerOf quotient w n d < 2 ^ w
-unfolding divuOf remOf
+unfolding divWord remWord
 answer-less quotient w n d h =
     by-pick (λ a. a < 2 ^ w) quotient _ _
     (λ q. by-pick (λ a. a < 2 ^ w) (eqb d 0) (2 ^ w - 1) (n / d) (λ z. omega (arith, pow-pos w)) (λ z. omega (arith, div-le-self n d)))

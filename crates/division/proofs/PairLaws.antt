@@ -1,19 +1,15 @@
 -- The law of the quotient and remainder gates.
-use mathlib.Core.Path.{_≡_, refl, ap, sym, _∙_}
-use mathlib.Core.List.{List}
-use mathlib.Core.Bool.{Bool, true, false}
-use Prim.Native.Nat.{ℕ, zero, suc, _+_, _*_, _≤_, _<_}
+use mathlib.Core.Path.{_≡_, refl, _∙_}
+use Prim.Native.Nat.{ℕ, suc, _+_, _*_, _≤_, _<_}
 use native.Mathlib.Omega.{arith}
 use native.Mathlib.Decide.{decLt}
 use lib.ListN.{length, getD, set, length-set}
 use lib.Seq.{getD-set-same, getD-set-other}
-use Rattle.loops.specs.Loop.{iter}
 use Rattle.loops.proofs.Loop.{iter-inv}
 use Rattle.netlist.specs.Record.{gateAt, Room}
 use Rattle.netlist.specs.Kind.{free}
-use Rattle.netlist.specs.Net.{Net}
 use Rattle.gates.specs.Made.{MadeBit, added, gateQuotient, gateRemainder}
-use Rattle.gates.specs.Law.{Grows, Formed}
+use Rattle.gates.specs.Law.{Grows}
 use Rattle.gates.specs.Given.{GivenLaw}
 use Rattle.gates.proofs.Laws.{grows-refl, grows-trans, grows-weaken, room-back}
 use Rattle.gates.proofs.GivenLaws.{given-law}

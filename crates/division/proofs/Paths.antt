@@ -2,11 +2,9 @@
 use mathlib.Core.Path.{_≡_, refl, ap, sym, _∙_}
 use mathlib.Core.List.{List}
 use mathlib.Core.Bool.{Bool, true, false, _&&_}
-use Prim.Native.Nat.{ℕ, suc, _-_, _+_, _*_, _/_, _%_, _^_, _≤_, _<_}
+use Prim.Native.Nat.{ℕ, _-_, _+_, _*_, _/_, _≤_, _<_}
 use native.Mathlib.Omega.{arith}
-use lib.Dec.{eqb}
 use lib.ListN.{length, getD, set}
-use borrow.Author.Tests.{eq-eqb, ne-eqb}
 use Rattle.loops.specs.Loop.{pick, iter, sum}
 use Rattle.loops.proofs.Loop.{pick-true, pick-false, both, loop-done}
 use Rattle.netlist.specs.Net.{Net}
@@ -25,12 +23,13 @@ use Rattle.words.proofs.NumLaws.{blank-long}
 use Rattle.words.proofs.AddLaws.{chain-three}
 use Rattle.words.proofs.MulLaws.{row-cost}
 use Rattle.words.proofs.Paths.{each-most}
-use Rattle.division.specs.Constraint.{conUsed, putCon, Cons, consOf, constrain, conStep, constrainEach, More}
-use Rattle.division.specs.Rows.{Checked, checkedOf, places, rowStep, divRows, rowsCost, rowsCount, RowsLaw}
-use Rattle.division.specs.Check.{Book, bookOf, sumWords, checkWords, sumCost, sumCount, checkCost, conCount}
-use Rattle.division.specs.Pair.{Pair, pairOf, pairStep, pairWords, PairLaw}
-use Rattle.division.specs.Known.{divuOf, remOf, answerOf, knownWord}
-use Rattle.division.specs.Divide.{Divided, divWords, freeWord, divideWords, divCost}
+use Rattle.division.specs.Constraint.{putCon, Cons, consOf, constrain, conStep, constrainEach, More}
+use Rattle.division.specs.Rows.{Checked, checkedOf, places, rowStep, divRows, RowsLaw}
+use Rattle.division.specs.Check.{Book, bookOf, sumWords, checkWords, sumCost, sumCount, checkCost}
+use Rattle.division.specs.Pair.{Pair, pairOf, pairStep, pairWords}
+use Rattle.division.specs.Known.{answerOf, knownWord}
+use Rattle.values.specs.Value.{divWord, remWord}
+use Rattle.division.specs.Divide.{divWords, freeWord, divideWords}
 use Rattle.division.proofs.ConstraintLaws.{each-more, more-one}
 use Rattle.division.proofs.RowLaws.{rows-law}
 use Rattle.division.proofs.CheckLaws.{cost-all, count-all, xnors-cost, sum-upto, sum-more}
@@ -53,27 +52,11 @@ one-count g v s l m e = (ap (λ (x : Cons). x .m) e ∙ more-one s g v .count, a
 
 -- numbers
 module _ (w n d r : ℕ) where
-  pub divu-zero : d ≡ 0 → r ≡ 2 ^ w - 1 → r ≡ divuOf w n d
-  unfolding divuOf
-  divu-zero h e = e ∙ sym (pick-true (eqb d 0) (2 ^ w - 1) (n / d) (eq-eqb d 0 h))
+  pub answer-divu : (q : Bool) → q ≡ true → r ≡ divWord w n d → r ≡ answerOf q w n d
+  answer-divu q h e = e ∙ sym (pick-true q (divWord w n d) (remWord n d) h)
 
-  pub divu-other : (d ≡ 0 → ⊥) → r ≡ n / d → r ≡ divuOf w n d
-  unfolding divuOf
-  divu-other h e = e ∙ sym (pick-false (eqb d 0) (2 ^ w - 1) (n / d) (ne-eqb d 0 h))
-
-  pub rem-zero : d ≡ 0 → r ≡ n → r ≡ remOf n d
-  unfolding remOf
-  rem-zero h e = e ∙ sym (pick-true (eqb d 0) n (n % d) (eq-eqb d 0 h))
-
-  pub rem-other : (d ≡ 0 → ⊥) → r ≡ n % d → r ≡ remOf n d
-  unfolding remOf
-  rem-other h e = e ∙ sym (pick-false (eqb d 0) n (n % d) (ne-eqb d 0 h))
-
-  pub answer-divu : (q : Bool) → q ≡ true → r ≡ divuOf w n d → r ≡ answerOf q w n d
-  answer-divu q h e = e ∙ sym (pick-true q (divuOf w n d) (remOf n d) h)
-
-  pub answer-rem : (q : Bool) → q ≡ false → r ≡ remOf n d → r ≡ answerOf q w n d
-  answer-rem q h e = e ∙ sym (pick-false q (divuOf w n d) (remOf n d) h)
+  pub answer-rem : (q : Bool) → q ≡ false → r ≡ remWord n d → r ≡ answerOf q w n d
+  answer-rem q h e = e ∙ sym (pick-false q (divWord w n d) (remWord n d) h)
 
 pub known-path : (q : Bool) (w : ℕ) (num den out out′ : List ℕ) (n d a : ℕ) → length num ≡ w → length den ≡ w → n ≡ knownNumber (length num) num → d ≡ knownNumber (length den) den
     → a ≡ answerOf q w n d → out′ ≡ putDigits a w out → out′ ≡ knownWord q w num den out

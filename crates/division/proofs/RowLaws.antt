@@ -6,9 +6,9 @@ use mathlib.Core.Bool.{Bool, true, false}
 use Prim.Native.Nat.{ℕ, zero, suc, _+_, _*_, _-_, _^_, _≤_, _<_}
 use native.Mathlib.Omega.{arith}
 use native.Mathlib.Decide.{decLt}
-use lib.ListN.{length, getD, take, drop}
+use lib.ListN.{length, getD, drop}
 use lib.Seq.{getD-take, getD-drop}
-use Rattle.loops.specs.Loop.{iter, sum, bit}
+use Rattle.loops.specs.Loop.{iter, bit}
 use Rattle.loops.proofs.Loop.{iter-inv}
 use Rattle.netlist.specs.Record.{Room}
 use Rattle.netlist.specs.Net.{Net, Assign, Obeys}
@@ -24,8 +24,8 @@ use Rattle.words.proofs.Sums.{sum-suc, sum-none}
 use Rattle.words.proofs.NumLaws.{num-lt, num-suc, num-none, num-same, blank-long, blank-at}
 use Rattle.words.proofs.EachLaws.{below-more}
 use Rattle.words.proofs.MulLaws.{num-zero, num-split, row-law, placed-law, row-arith}
-use Rattle.division.specs.Constraint.{Cons, ConRoom, constrain, constrainEach, Holds, Within, More, ConLaw}
-use Rattle.division.specs.Rows.{Checked, places, rowStep, divRows, rowsCost, rowsCount, RowsLaw}
+use Rattle.division.specs.Constraint.{Cons, constrainEach, ConLaw}
+use Rattle.division.specs.Rows.{Checked, places, rowStep, rowsCost, rowsCount, RowsLaw}
 use Rattle.division.proofs.ConstraintLaws.{more-refl, more-trans, more-as, room-back, holds-split, within-join, holds-none, within-none, one-law, then-law, All, each-law}
 
 -- what is lost above w bits is nothing exactly where the number fits

@@ -1,13 +1,13 @@
 -- What the equivalence gives: a division by a divisor that is not zero can be solved, in one way; by zero, in none.
-use mathlib.Core.Path.{_≡_, refl, ap, sym, _∙_}
+use mathlib.Core.Path.{_≡_, refl, sym, _∙_}
 use mathlib.Core.List.{List}
-use mathlib.Core.Bool.{Bool, true, false}
-use Prim.Native.Nat.{ℕ, zero, suc, _+_, _*_, _-_, _^_, _/_, _%_, _≤_, _<_}
+use mathlib.Core.Bool.{true, false}
+use Prim.Native.Nat.{ℕ, zero, suc, _+_, _*_, _-_, _/_, _%_, _≤_, _<_}
 use native.Mathlib.Omega.{arith}
 use native.Mathlib.Decide.{decLt}
 use native.Mathlib.Nat.{mod-lt, div-add-mod', div-le-self, mod-le}
 use lib.Dec.{eqb, ltb}
-use lib.ListN.{length, getD}
+use lib.ListN.{getD}
 use borrow.Author.Tests.{lt-ltb, le-ltb}
 use Rattle.loops.specs.Loop.{pick}
 use Rattle.loops.proofs.Loop.{pick-true, pick-false}
@@ -22,7 +22,7 @@ use Rattle.digits.proofs.Numbers.{number-same, number-digit}
 use Rattle.words.specs.Num.{num}
 use Rattle.words.proofs.NumLaws.{num-lt, right-num}
 use Rattle.division.specs.Constraint.{ConRoom, Holds}
-use Rattle.division.specs.Check.{Book, Divides}
+use Rattle.division.specs.Check.{Book}
 use Rattle.division.specs.Divide.{Divided, DivLaw}
 use Rattle.division.proofs.CheckLaws.{divides-one, divides-none}
 

@@ -3,7 +3,7 @@
 use mathlib.Core.Path.{_≡_}
 use mathlib.Core.List.{List}
 use mathlib.Core.Logic.{_↔_}
-use Prim.Native.Nat.{ℕ, _+_, _*_, _-_, _/_, _≤_, _<_}
+use Prim.Native.Nat.{ℕ, _+_, _*_, _-_, _/_, _<_}
 use Rattle.netlist.specs.Record.{Room}
 use Rattle.netlist.specs.Net.{Net, Assign, Obeys}
 use Rattle.gates.specs.declared.made.At.{At}

@@ -2,17 +2,17 @@
 use mathlib.Core.Path.{_≡_}
 use mathlib.Core.List.{List}
 use mathlib.Core.Logic.{_↔_}
-use mathlib.Core.Bool.{Bool, true, false, _&&_}
+use mathlib.Core.Bool.{Bool, false, _&&_}
 use Prim.Native.Nat.{ℕ, _+_, _*_, _-_, _/_, _≤_, _<_}
-use lib.ListN.{getD, length}
+use lib.ListN.{getD}
 use Rattle.loops.specs.Loop.{pick}
 use Rattle.netlist.specs.Record.{gateAt, Room}
 use Rattle.netlist.specs.Kind.{free}
-use Rattle.netlist.specs.Net.{Net, Assign, Obeys}
+use Rattle.netlist.specs.Net.{Assign, Obeys}
 use Rattle.gates.specs.Made.{gateQuotient, gateRemainder}
 use Rattle.gates.specs.Law.{Grows, Formed}
 use Rattle.digits.specs.Digits.{Below, allKnown}
-use Rattle.words.specs.Num.{num, blank}
+use Rattle.words.specs.Num.{blank}
 use Rattle.words.specs.Each.{putBits}
 use Rattle.division.specs.Constraint.{ConRoom, Holds, Within, More}
 use Rattle.division.specs.Rows.{Checked}

@@ -2,23 +2,17 @@
 use mathlib.Core.Path.{_≡_}
 use mathlib.Core.List.{List}
 use mathlib.Core.Bool.{Bool}
-use Prim.Native.Nat.{ℕ, _-_, _^_, _/_, _%_, _≤_, _<_}
-use lib.Dec.{eqb}
+use Prim.Native.Nat.{ℕ, _≤_}
 use lib.ListN.{getD, length}
 use Rattle.loops.specs.Loop.{pick}
+use Rattle.values.specs.Value.{divWord, remWord}
 use Rattle.netlist.specs.Net.{Net, Assign, Obeys}
 use Rattle.digits.specs.Digits.{Below, knownNumber, putDigits}
 use Rattle.words.specs.Num.{num}
 
 -- of two numbers of w bits: divu, or rem
-unfoldable pub divuOf : ℕ → ℕ → ℕ → ℕ
-divuOf w n d = pick (eqb d 0) (2 ^ w - 1) (n / d)
-
-unfoldable pub remOf : ℕ → ℕ → ℕ
-remOf n d = pick (eqb d 0) n (n % d)
-
 abbrev pub answerOf : Bool → ℕ → ℕ → ℕ → ℕ
-answerOf quotient w n d = pick quotient (divuOf w n d) (remOf n d)
+answerOf quotient w n d = pick quotient (divWord w n d) (remWord n d)
 
 abbrev pub knownWord : Bool → ℕ → List ℕ → List ℕ → List ℕ → List ℕ
 knownWord quotient w n d out = putDigits (answerOf quotient w (knownNumber w n) (knownNumber w d)) w out

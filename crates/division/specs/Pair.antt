@@ -1,7 +1,7 @@
 -- Quotient and Remainder gates, alternating from bit 0.
 use mathlib.Core.Path.{_≡_}
 use mathlib.Core.List.{List}
-use Prim.Native.Nat.{ℕ, _+_, _*_, _≤_, _<_}
+use Prim.Native.Nat.{ℕ, _+_, _*_, _<_}
 use lib.ListN.{getD, set, length}
 use Rattle.loops.specs.Loop.{iter}
 use Rattle.netlist.specs.Record.{gateAt, Room}

@@ -1,6 +1,6 @@
 // The constraints that quotient times divisor and the remainder are the dividend, and that the remainder is below the divisor.
 ghost use mathlib.Core.Path.{_≡_};
-ghost use Prim.Native.Nat.{ℕ, _+_, _*_, _-_, _≤_, _<_};
+ghost use Prim.Native.Nat.{_+_, _-_, _≤_};
 ghost use lib.ListN.{length};
 ghost use Rattle.gates.specs.Made.{Fits};
 ghost use Rattle.division.specs.Constraint.{conUsed};

@@ -1,6 +1,6 @@
 // The list of constraints, gate and value. Nothing else in the code knows how many numbers a constraint has.
 ghost use mathlib.Core.Path.{_≡_};
-ghost use Prim.Native.Nat.{ℕ, _+_, _*_, _≤_, _<_};
+ghost use Prim.Native.Nat.{_+_, _*_, _≤_, _<_};
 ghost use lib.ListN.{length};
 ghost use Rattle.division.specs.Constraint.{conUsed, conGate, conValue, consOf, constrain, constrainEach};
 use gates::made::At;

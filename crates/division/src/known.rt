@@ -1,45 +1,20 @@
 // Wholly known operands are divided as numbers.
 ghost use mathlib.Core.Path.{_≡_};
-ghost use Prim.Native.Nat.{ℕ, _-_, _^_, _≤_, _<_};
+ghost use Prim.Native.Nat.{_≤_};
 ghost use lib.ListN.{length};
 ghost use Rattle.digits.specs.Digits.{Below};
-ghost use Rattle.division.specs.Known.{divuOf, remOf, answerOf, knownWord};
-
-// The number whose w digits are all ones.
-fn all_ones(w: usize) -> u64
-    requires { ⌜ (1 ≤ w) × (w ≤ 64) ⌝ }
-    ensures { λ r. ⌜ r ≡ 2 ^ w - 1 ⌝ }
-{
-    18446744073709551615 >> (64 - w)
-}
-
-fn divu_of(w: usize, n: u64, d: u64) -> u64
-    requires { ⌜ (1 ≤ w) × (w ≤ 64) ⌝ }
-    ensures { λ r. ⌜ r ≡ divuOf w n d ⌝ }
-{
-    if d == 0 {
-        return all_ones(w);
-    }
-    n / d
-}
-
-fn rem_of(n: u64, d: u64) -> u64
-    ensures { λ r. ⌜ r ≡ remOf n d ⌝ }
-{
-    if d == 0 {
-        return n;
-    }
-    n % d
-}
+ghost use Rattle.division.specs.Known.{answerOf, knownWord};
+use values::value::div_word;
+use values::value::rem_word;
 
 fn answer_of(quotient: bool, w: usize, n: u64, d: u64) -> u64
     requires { ⌜ (1 ≤ w) × (w ≤ 64) ⌝ }
     ensures { λ r. ⌜ r ≡ answerOf quotient w n d ⌝ }
 {
     if quotient {
-        return divu_of(w, n, d);
+        return div_word(w as u64, n, d);
     }
-    rem_of(n, d)
+    rem_word(n, d)
 }
 
 // The quotient, or the remainder, of two known words.

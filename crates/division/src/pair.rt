@@ -1,6 +1,6 @@
 // The quotient and remainder gates.
 ghost use mathlib.Core.Path.{_≡_};
-ghost use Prim.Native.Nat.{ℕ, _+_, _*_, _≤_, _<_};
+ghost use Prim.Native.Nat.{_+_, _*_, _≤_, _<_};
 ghost use lib.ListN.{length};
 ghost use Rattle.gates.specs.Made.{Fits};
 ghost use Rattle.division.specs.Pair.{pairOf, pairStep, pairWords};

@@ -1,6 +1,6 @@
 // Quotient times divisor, row by row, constrained to lose nothing above the width.
 ghost use mathlib.Core.Path.{_≡_};
-ghost use Prim.Native.Nat.{ℕ, _+_, _*_, _-_, _/_, _≤_, _<_};
+ghost use Prim.Native.Nat.{_+_, _*_, _-_, _/_, _≤_, _<_};
 ghost use lib.ListN.{length};
 ghost use Rattle.gates.specs.Made.{netOf, Fits};
 ghost use Rattle.words.specs.Num.{blank};

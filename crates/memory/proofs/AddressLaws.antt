@@ -1,21 +1,19 @@
 -- Places of words in a memory, the search for a listed address, and Eq with one.
-use mathlib.Core.Path.{_≡_, refl, ap, sym, _∙_}
+use mathlib.Core.Path.{_≡_, ap, sym, _∙_}
 use mathlib.Core.List.{List}
-use mathlib.Core.Bool.{Bool, true, false}
-use Prim.Native.Nat.{ℕ, zero, suc, _+_, _*_, _-_, _^_, _≤_, _<_}
+use Prim.Native.Nat.{ℕ, suc, _+_, _*_, _-_, _^_, _≤_, _<_}
 use native.Mathlib.Omega.{arith}
 use native.Mathlib.Decide.{decLt}
 use native.Mathlib.Nat.{mul-le-mul-right}
 use lib.Dec.{eqb}
-use lib.ListN.{length, getD, take, drop}
+use lib.ListN.{length, getD, drop}
 use lib.Seq.{getD-take, getD-drop}
 use borrow.Author.Tests.{eqb-true, eqb-false}
-use Rattle.loops.specs.Loop.{first}
 use Rattle.loops.proofs.Loop.{first-true, first-below}
-use Rattle.netlist.specs.Net.{Net, Assign, Obeys}
+use Rattle.netlist.specs.Net.{Net}
 use Rattle.gates.specs.Law.{Ext}
 use Rattle.gates.proofs.Laws.{bit-map, ext-weaken}
-use Rattle.digits.specs.Digits.{digit, number, putDigits, Below}
+use Rattle.digits.specs.Digits.{putDigits, Below}
 use Rattle.digits.proofs.Numbers.{digit-lt}
 use Rattle.digits.proofs.Words.{Put, put-law}
 use Rattle.words.specs.Num.{num, blank}
@@ -23,7 +21,8 @@ use Rattle.words.specs.Each.{putBits}
 use Rattle.words.proofs.NumLaws.{num-digits, blank-long}
 use Rattle.words.proofs.EachLaws as each
 use Rattle.words.proofs.EqLaws.{eq-law, eq-left}
-use Rattle.memory.specs.Address.{part, isListed, listedAt, atListed, AtLaw, Listed}
+use Rattle.memory.specs.Address.{part, listedAt, atListed, AtLaw, Listed}
+use Rattle.table.specs.Sheet.{isAt}
 
 -- bit j of word i
 pub part-at : (i w : ℕ) (mem : List ℕ) (j : ℕ) → j < w → getD (part i w mem) j 0 ≡ getD mem (i * w + j) 0
@@ -59,12 +58,12 @@ module _ (from : ℕ) (bits map : List ℕ) (w : ℕ) (fits : from + w ≤ lengt
 
 -- what the search finds has the address, and where it finds none no place has it
 pub found-listed : (n : ℕ) (addrs : List ℕ) (a : ℕ) → listedAt n addrs a < n → getD addrs (listedAt n addrs a) 0 ≡ a
-unfolding isListed
-found-listed n addrs a h = eqb-true _ a (first-true (isListed addrs a) n h)
+unfolding isAt
+found-listed n addrs a h = eqb-true _ a (first-true (isAt addrs a) n h)
 
 pub none-listed : (n : ℕ) (addrs : List ℕ) (a : ℕ) → n ≤ listedAt n addrs a → (i : ℕ) → i < n → getD addrs i 0 ≡ a → ⊥
-unfolding isListed
-none-listed n addrs a h i l = eqb-false (getD addrs i 0) a (first-below (isListed addrs a) n i (omega arith))
+unfolding isAt
+none-listed n addrs a h i l = eqb-false (getD addrs i 0) a (first-below (isAt addrs a) n i (omega arith))
 
 -- a listed address has one place
 pub only-listed : (n w : ℕ) (addrs : List ℕ) (a : ℕ) → Listed n w addrs → listedAt n addrs a < n → (i : ℕ) → i < n → getD addrs i 0 ≡ a → i ≡ listedAt n addrs a

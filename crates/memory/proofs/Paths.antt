@@ -5,11 +5,10 @@ use mathlib.Core.Bool.{Bool, true, false}
 use Prim.Native.Nat.{ℕ, zero, suc, _+_, _*_, _-_, _≤_, _<_}
 use native.Mathlib.Omega.{arith}
 use native.Mathlib.Nat.{mul-le-mul-right}
-use lib.Dec.{eqb, ltb}
-use lib.ListN.{length, getD, set, take, drop}
-use borrow.Author.Tests.{eq-eqb, ne-eqb, lt-ltb, le-ltb}
-use Rattle.loops.specs.Loop.{pick, iter, first}
-use Rattle.loops.proofs.Loop.{by-pick, iter-inv, first-more, first-found}
+use lib.ListN.{length, getD, take, drop}
+use borrow.Author.Tests.{lt-ltb, le-ltb}
+use Rattle.loops.specs.Loop.{pick, iter}
+use Rattle.loops.proofs.Loop.{by-pick, iter-inv}
 use Rattle.netlist.specs.Net.{Net}
 use Rattle.gates.specs.declared.made.At.{At}
 use Rattle.gates.specs.Made.{MadeBit, netOf, madeOf}
@@ -25,22 +24,12 @@ use Rattle.words.specs.Eq.{eqWords, eqCost}
 use Rattle.words.proofs.NumLaws.{blank-long}
 use Rattle.words.proofs.EqLaws.{eq-left}
 use Rattle.words.proofs.Paths.{each-most}
-use Rattle.memory.specs.Address.{part, isListed, listedAt, atListed}
+use Rattle.memory.specs.Address.{part, listedAt, atListed}
 use Rattle.memory.specs.Read.{cleared, readKnown, readOne, readStep, readWords}
 use Rattle.memory.specs.Write.{writeKnown, writeStep, writeWords}
 use Rattle.memory.proofs.AddressLaws.{digits-known, at-ext}
 use Rattle.memory.proofs.ReadLaws.{ands-cost, ors-cost, put-low, one-ext}
 use Rattle.memory.proofs.WriteLaws.{choose-cost, step-ext}
-
--- the search
-module _ (addrs : List ℕ) (a i : ℕ) (e : i ≡ first i (isListed addrs a)) where
-  pub listed-more : (getD addrs i 0 ≡ a → ⊥) → i + 1 ≡ first (i + 1) (isListed addrs a)
-  unfolding isListed
-  listed-more h = first-more (isListed addrs a) i false e (sym (ne-eqb (getD addrs i 0) a h)) refl
-
-  pub listed-found : (n : ℕ) → i < n → getD addrs i 0 ≡ a → i ≡ listedAt n addrs a
-  unfolding isListed
-  listed-found n l h = first-found (isListed addrs a) n i true l e (sym (eq-eqb (getD addrs i 0) a h)) refl
 
 -- Eq with a listed address
 module _ (w a : ℕ) (adr d : List ℕ) (e : d ≡ putDigits a w blank) where

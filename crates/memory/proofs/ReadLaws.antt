@@ -6,28 +6,28 @@ use Prim.Native.Nat.{ℕ, zero, suc, _+_, _*_, _-_, _^_, _≤_, _<_}
 use native.Mathlib.Omega.{arith}
 use native.Mathlib.Decide.{decLt}
 use lib.Dec.{eqb, ltb}
-use lib.ListN.{length, getD, take, drop}
+use lib.ListN.{length, getD, drop}
 use lib.Seq.{getD-drop}
 use borrow.Author.Tests.{eq-eqb, ne-eqb, ltb-true, ltb-false}
-use Rattle.loops.specs.Loop.{pick, iter, sum, bit}
+use Rattle.loops.specs.Loop.{iter, bit}
 use Rattle.loops.proofs.Loop.{by-pick, iter-inv}
 use Rattle.netlist.specs.Record.{Room}
-use Rattle.netlist.specs.Net.{Net, Assign, Obeys}
+use Rattle.netlist.specs.Net.{Assign, Obeys}
 use Rattle.gates.specs.Made.{MadeBit}
-use Rattle.gates.specs.Law.{Ext, Formed, BitLaw}
+use Rattle.gates.specs.Law.{Ext, Formed}
 use Rattle.gates.proofs.Laws.{ext-refl, ext-trans, ext-weaken, keeps, room-back}
 use Rattle.digits.specs.Digits.{number, Below, allKnown, knownNumber}
 use Rattle.digits.proofs.Numbers.{number-same}
 use Rattle.digits.proofs.Words.{all-true, all-false}
 use Rattle.words.specs.declared.each.Bitwise.the-variants.{Or, AndWith}
 use Rattle.words.specs.Num.{num, blank}
-use Rattle.words.specs.Each.{bitCost, bitValue, bitBelow, Word, eachBit, eachCost, EachLaw, putBits, Put}
+use Rattle.words.specs.Each.{bitCost, bitValue, bitBelow, Word, eachBit, eachCost, EachLaw, putBits}
 use Rattle.words.proofs.Sums.{sum-most}
 use Rattle.words.proofs.NumLaws.{num-known, blank-long, blank-at}
 use Rattle.words.proofs.EachLaws.{each-law, each-ext, below-more, put-law}
 use Rattle.memory.specs.Address.{part, listedAt, atListed, Listed, AtLaw, wordNum}
 use Rattle.memory.specs.Read.{cleared, readKnown, readOne, readStep, readWords, ReadLaw}
-use Rattle.memory.proofs.AddressLaws.{part-at, part-below, word-end, put-below, found-listed, none-listed, only-listed, at-ext, at-law}
+use Rattle.memory.proofs.AddressLaws.{part-at, part-below, found-listed, none-listed, only-listed, at-ext, at-law}
 
 num-zero : (e : Assign) (xs : List ℕ) (w : ℕ) → ((j : ℕ) → j < w → e (getD xs j 0) ≡ false) → num e xs w ≡ 0
 unfolding number

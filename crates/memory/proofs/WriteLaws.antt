@@ -1,20 +1,20 @@
 -- The law of a write: a word is the value where its listed address is the number of the address, and otherwise the old word.
 use mathlib.Core.Path.{_≡_, refl, ap, sym, _∙_}
 use mathlib.Core.List.{List}
-use mathlib.Core.Bool.{Bool, true, false}
-use Prim.Native.Nat.{ℕ, zero, suc, _+_, _*_, _-_, _^_, _≤_, _<_}
+use mathlib.Core.Bool.{Bool}
+use Prim.Native.Nat.{ℕ, suc, _+_, _*_, _-_, _^_, _≤_, _<_}
 use native.Mathlib.Omega.{arith}
 use native.Mathlib.Decide.{decLt, ℕ-discrete}
 use lib.Dec.{eqb, ltb}
-use lib.ListN.{length, getD, take, drop}
+use lib.ListN.{length, getD, drop}
 use lib.Seq.{getD-drop}
 use borrow.Author.Tests.{eq-eqb, ne-eqb, ltb-true, ltb-false}
-use Rattle.loops.specs.Loop.{pick, iter, sum}
+use Rattle.loops.specs.Loop.{pick, iter}
 use Rattle.loops.proofs.Loop.{by-pick, pick-true, pick-false, iter-inv}
 use Rattle.netlist.specs.Record.{Room}
 use Rattle.netlist.specs.Net.{Net, Assign, Obeys}
 use Rattle.gates.specs.Made.{MadeBit}
-use Rattle.gates.specs.Law.{Ext, Formed, BitLaw}
+use Rattle.gates.specs.Law.{Ext, Formed}
 use Rattle.gates.proofs.Laws.{ext-refl, ext-trans, ext-weaken, keeps, room-back}
 use Rattle.digits.specs.Digits.{Below, allKnown, knownNumber}
 use Rattle.digits.proofs.Words.{all-true, all-false}

@@ -1,11 +1,11 @@
 -- A memory has n words of w bits, in address-list order, lowest bit first.
 use mathlib.Core.Path.{_≡_}
 use mathlib.Core.List.{List}
-use mathlib.Core.Bool.{Bool}
 use Prim.Native.Nat.{ℕ, _*_, _-_, _^_, _≤_, _<_}
 use lib.Dec.{eqb}
 use lib.ListN.{getD, take, drop}
 use Rattle.loops.specs.Loop.{first}
+use Rattle.table.specs.Sheet.{isAt}
 use Rattle.netlist.specs.Net.{Net, Assign}
 use Rattle.gates.specs.Made.{MadeBit}
 use Rattle.gates.specs.Law.{BitLaw}
@@ -18,11 +18,8 @@ abbrev pub part : ℕ → ℕ → List ℕ → List ℕ
 part i w mem = take w (drop (i * w) mem)
 
 -- the place of an address in the list; n where it is not listed
-unfoldable pub isListed : List ℕ → ℕ → ℕ → Bool
-isListed addrs a i = eqb (getD addrs i 0) a
-
 abbrev pub listedAt : ℕ → List ℕ → ℕ → ℕ
-listedAt n addrs a = first n (isListed addrs a)
+listedAt n addrs a = first n (isAt addrs a)
 
 -- Eq of a listed address, a, with the address
 unfoldable pub atListed : ℕ → ℕ → List ℕ → Net → MadeBit

@@ -1,7 +1,6 @@
 -- Read: a wholly known address takes the listed word. Otherwise, per listed address: Eq with the address, the Ands of word bit and equality, the Ors onto the result, at first known false.
 use mathlib.Core.Path.{_≡_}
 use mathlib.Core.List.{List}
-use mathlib.Core.Bool.{Bool}
 use Prim.Native.Nat.{ℕ, _*_, _-_, _≤_, _<_}
 use lib.Dec.{ltb}
 use lib.ListN.{length, getD}

@@ -1,7 +1,6 @@
 -- Write: a wholly known address replaces the listed word. Otherwise, per listed address: Eq with the address, then value or old bit is chosen by the equality; a known equality picks without gates.
 use mathlib.Core.Path.{_≡_}
 use mathlib.Core.List.{List}
-use mathlib.Core.Bool.{Bool}
 use Prim.Native.Nat.{ℕ, _*_, _-_, _≤_, _<_}
 use lib.Dec.{eqb, ltb}
 use lib.ListN.{length, getD}

@@ -1,26 +1,12 @@
 // The listed addresses.
 ghost use mathlib.Core.Path.{_≡_};
-ghost use Prim.Native.Nat.{ℕ, _*_, _-_, _≤_, _<_};
+ghost use Prim.Native.Nat.{_*_, _-_, _≤_};
 ghost use lib.ListN.{length};
 ghost use Rattle.gates.specs.Made.{netOf, madeOf, Fits};
-ghost use Rattle.memory.specs.Address.{listedAt, atListed};
+ghost use Rattle.memory.specs.Address.{atListed};
 use gates::made::At;
 use gates::made::Made;
 use words::eq;
-
-// The place of an address in the list; the list's length where it is not listed.
-pub fn listed_at(addrs: &[u64], a: u64) -> usize
-    ensures { λ r. ⌜ r ≡ listedAt (length (now (addrs .entry))) (now (addrs .entry)) a ⌝ }
-{
-    let mut i = 0;
-    while i < addrs.len() {
-        if addrs[i] == a {
-            return i;
-        }
-        i += 1;
-    }
-    i
-}
 
 // Whether the address is the listed one, a: a's digits are known, so an Xnor costs one gate at most.
 pub fn at_listed(gates: &mut [u32], at: At, a: u64, adr: &[u32], w: usize) -> Made

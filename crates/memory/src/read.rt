@@ -1,6 +1,6 @@
 // Reading a memory.
 ghost use mathlib.Core.Path.{_≡_};
-ghost use Prim.Native.Nat.{ℕ, _+_, _*_, _-_, _≤_, _<_};
+ghost use Prim.Native.Nat.{_+_, _*_, _-_, _≤_, _<_};
 ghost use lib.ListN.{length};
 ghost use Rattle.loops.specs.Loop.{iter};
 ghost use Rattle.gates.specs.Made.{Fits};
@@ -8,6 +8,7 @@ ghost use Rattle.words.specs.Each.{wordOf};
 ghost use Rattle.memory.specs.Read.{readKnown, readOne, readStep, readWords};
 use crate::address;
 use gates::made::At;
+use table::sheet::find;
 use words::each;
 use words::each::Bitwise;
 
@@ -16,7 +17,7 @@ fn read_known(addrs: &[u64], mem: &[u32], a: u64, w: usize, out: &mut [u32])
     requires { ⌜ (length (now addrs) * w ≤ length (now mem)) × (w ≤ 64) × (w ≤ length (now out)) ⌝ }
     ensures { λ _. ⌜ now (out .exit) ≡ readKnown (length (now (addrs .entry))) w (now (addrs .entry)) (now (mem .entry)) a (now (out .entry)) ⌝ }
 {
-    let i = address::listed_at(addrs, a);
+    let i = find(addrs, addrs.len(), a);
     if i < addrs.len() {
         let from = i * w;
         each::put_bits(out, 0, &mem[from..from + w], w);

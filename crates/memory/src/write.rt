@@ -1,6 +1,6 @@
 // Writing a memory, in place.
 ghost use mathlib.Core.Path.{_≡_};
-ghost use Prim.Native.Nat.{ℕ, _+_, _*_, _-_, _≤_, _<_};
+ghost use Prim.Native.Nat.{_+_, _*_, _-_, _≤_, _<_};
 ghost use lib.ListN.{length};
 ghost use Rattle.loops.specs.Loop.{iter};
 ghost use Rattle.gates.specs.Made.{Fits};
@@ -8,6 +8,7 @@ ghost use Rattle.words.specs.Each.{wordOf};
 ghost use Rattle.memory.specs.Write.{writeKnown, writeStep, writeWords};
 use crate::address;
 use gates::made::At;
+use table::sheet::find;
 use words::each;
 use words::each::Bitwise;
 
@@ -16,7 +17,7 @@ fn write_known(addrs: &[u64], a: u64, val: &[u32], w: usize, mem: &mut [u32])
     requires { ⌜ (length (now addrs) * w ≤ length (now mem)) × (w ≤ length (now val)) ⌝ }
     ensures { λ _. ⌜ now (mem .exit) ≡ writeKnown (length (now (addrs .entry))) w (now (addrs .entry)) a (now (val .entry)) (now (mem .entry)) ⌝ }
 {
-    let i = address::listed_at(addrs, a);
+    let i = find(addrs, addrs.len(), a);
     if i < addrs.len() {
         let from = i * w;
         each::put_bits(mem, from, val, w);

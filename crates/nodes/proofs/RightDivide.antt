@@ -31,7 +31,7 @@ use Rattle.words.proofs.EachLaws.{put-law}
 use Rattle.division.specs.Constraint.{consOf, conGate, conValue, ConRoom, Holds, Within}
 use Rattle.division.specs.Rows.{Checked}
 use Rattle.division.specs.Check.{Book, Divides, conCount}
-use Rattle.division.specs.Known.{divuOf, remOf, answerOf, knownWord}
+use Rattle.division.specs.Known.{answerOf, knownWord}
 use Rattle.division.specs.Divide as div
 use Rattle.division.specs.Divide.{divWords, freeWord, divideWords, DivLaw}
 use Rattle.visits.specs.Flow.{Core}
@@ -185,13 +185,12 @@ module _ {S : Source} {x : List ℕ} (v : Evaluated S x) {k : ℕ} (gates : Divi
   known-word = knownWord quotient w A B blank
 
   known-says : (e : Assign) → Obeys (s .net) e → Below 2 A w → Below 2 B w → Operable S x k (s .map) e (s .map) → num e known-word w ≡ slotOf S x k 0
-  unfolding divuOf remOf divWord remWord
   known-says e ob ka kb o =
       let L = numbers quotient w A B blank (omega (arith, small, blank-long)) in
       let q : w ≡ d .width = word-wide S k (z .word) in
       L .value (s .net) e ob ka kb
       ∙ (ap₂ (λ a b. answerOf quotient w a b) (a-says e o) (b-says e o)
-      ∙ (ap (λ n. pick quotient (divuOf n (dividend S x k) (divisor S x k)) (remOf (dividend S x k) (divisor S x k))) q
+      ∙ (ap (λ n. pick quotient (divWord n (dividend S x k) (divisor S x k)) (remWord (dividend S x k) (divisor S x k))) q
       ∙ sym slot-is))
 
   known-right : (allKnown w A && allKnown w B) ≡ true → StepRight (recipe S) (meaning S x) k s (ended (record { net = s .net; cons = consOf (s .cons) (s .nc); out = known-word }))

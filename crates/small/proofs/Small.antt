@@ -34,10 +34,9 @@ use Rattle.words.specs.Sub.{subWords, ultWords}
 use Rattle.division.specs.Check.{sumWords, checkWords}
 use Rattle.division.specs.Constraint.{putCon, constrain, conStep}
 use Rattle.division.specs.Divide.{divWords, freeWord, divideWords}
-use Rattle.division.specs.Known.{divuOf, remOf}
 use Rattle.division.specs.Pair.{pairStep}
 use Rattle.division.specs.Rows.{rowStep}
-use Rattle.memory.specs.Address.{isListed, atListed}
+use Rattle.memory.specs.Address.{atListed}
 use Rattle.memory.specs.Read.{readKnown, readOne, readStep, readWords}
 use Rattle.memory.specs.Write.{writeKnown, writeStep, writeWords}
 use Rattle.visits.specs.Flow.{owned, enter, mark, visitTo, rootStep, lowerTo}
@@ -199,5 +198,5 @@ right r l = all-right r l (evalGates (take (used 13) (l .gates)) given .values) 
 
 -- lent: 1,000 gates, 64 constraints, 1,000 places
 pub small : right (evalWords table addresses 2 before) (lowerAll (source table addresses 2) (replicate 4000 0) (replicate 128 0) (replicate 1000 0)) ≡ true
-unfolding right all-right asked madeBy′ recordedBy pick iter first sum divGates divConstraints memoryGates iteGates plainGates ceiling constraintCeiling nodeGates nodeConstraints sumsOf fieldAt sizeGood isAt addressBad addressesBad operandsGood sortGood sortsGood faultOf nodeFault nodeBad nodesFault tableFault nodeSize offsetOf sizeSum slotWidth slotBad inputBad slotStep nodeStep evalClear evalWords notWord addWord subWord mulWord divWord remWord wordValue readValue writeValue iteValue placeAt slotAt isKnown knownOf byKnown fieldGood constGood laterGood faulty listFault gateValue evalStep outOfRange evalSound evalGates free usesY usesZ valueOf gateAt put twoKnown oneKnown noneKnown adderBit trueSide falseSide bothSides choiceBit muxBit notBit andBit orBit xnorBit added digits.digit digits.number digitStep unknownAt allKnown addStep bitwise eachStep copyStep andStep eqWords mulStep blank subWords ultWords sumWords checkWords putCon constrain conStep divWords freeWord divideWords divuOf remOf pairStep rowStep isListed atListed readKnown readOne readStep readWords writeKnown writeStep writeWords owned enter mark visitTo rootStep lowerTo stored start ended lowerClear lowerAll wordStep inputStep inputWord shareWord chooseWord readWord plainWord wordOwn writeOwn divideOwn iteOwn madeBy ownStep wordsOf wideOf bitsOf gatesOf asksOf secondOf thirdOf blockedOf
+unfolding right all-right asked madeBy′ recordedBy pick iter first sum divGates divConstraints memoryGates iteGates plainGates ceiling constraintCeiling nodeGates nodeConstraints sumsOf fieldAt sizeGood isAt addressBad addressesBad operandsGood sortGood sortsGood faultOf nodeFault nodeBad nodesFault tableFault nodeSize offsetOf sizeSum slotWidth slotBad inputBad slotStep nodeStep evalClear evalWords notWord addWord subWord mulWord divWord remWord wordValue readValue writeValue iteValue placeAt slotAt isKnown knownOf byKnown fieldGood constGood laterGood faulty listFault gateValue evalStep outOfRange evalSound evalGates free usesY usesZ valueOf gateAt put twoKnown oneKnown noneKnown adderBit trueSide falseSide bothSides choiceBit muxBit notBit andBit orBit xnorBit added digits.digit digits.number digitStep unknownAt allKnown addStep bitwise eachStep copyStep andStep eqWords mulStep blank subWords ultWords sumWords checkWords putCon constrain conStep divWords freeWord divideWords pairStep rowStep atListed readKnown readOne readStep readWords writeKnown writeStep writeWords owned enter mark visitTo rootStep lowerTo stored start ended lowerClear lowerAll wordStep inputStep inputWord shareWord chooseWord readWord plainWord wordOwn writeOwn divideOwn iteOwn madeBy ownStep wordsOf wideOf bitsOf gatesOf asksOf secondOf thirdOf blockedOf
 small = refl

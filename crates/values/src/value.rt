@@ -74,7 +74,7 @@ fn mul_word(v: u64, x: u64, y: u64) -> u64
     reduce(mul_low(x, y), v)
 }
 
-fn div_word(v: u64, x: u64, y: u64) -> u64
+pub fn div_word(v: u64, x: u64, y: u64) -> u64
     requires { ⌜ v ≤ 64 ⌝ }
     ensures { λ r. ⌜ r ≡ divWord v x y ⌝ }
 {
@@ -84,7 +84,7 @@ fn div_word(v: u64, x: u64, y: u64) -> u64
     x / y
 }
 
-fn rem_word(x: u64, y: u64) -> u64
+pub fn rem_word(x: u64, y: u64) -> u64
     ensures { λ r. ⌜ r ≡ remWord x y ⌝ }
 {
     if y == 0 {

@@ -7,11 +7,11 @@ use Rattle.memory.proofs.read.read_known.Statement.{statement}
 use Rattle.memory.proofs.read.read_known.Tie as tie
 use Rattle.memory.proofs.read.read_known.Reads as reads
 use Rattle.memory.proofs.read.read_known.Lts as lts
-use Rattle.memory.proofs.address.listed_at.Reads as listed-at-reads
+use Rattle.table.proofs.sheet.find.Reads as find-reads
 use Rattle.words.proofs.each.put_bits.Reads as put-bits-reads
 
-listed-at-requires : tie.Need-listed-at-requires
-listed-at-requires c κs = search needs
+find-requires : tie.Need-find-requires
+find-requires c κs = search needs
 
 mul-from : tie.Need-mul-from
 mul-from c = omega (arith, word-end _ _ (c .before .before .before .before .before .args .w) (c .if1 .taken))
@@ -57,7 +57,7 @@ pub read-known-spec : {M : Type 1} → statement M
 read-known-spec =
     tie.close
     (tie.spec
-    listed-at-requires
+    find-requires
     mul-from
     add-put-bits
     mul-put-bits

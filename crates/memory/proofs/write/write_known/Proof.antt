@@ -6,11 +6,11 @@ use Rattle.memory.proofs.write.write_known.Statement.{statement}
 use Rattle.memory.proofs.write.write_known.Tie as tie
 use Rattle.memory.proofs.write.write_known.Reads as reads
 use Rattle.memory.proofs.write.write_known.Lts as lts
-use Rattle.memory.proofs.address.listed_at.Reads as listed-at-reads
+use Rattle.table.proofs.sheet.find.Reads as find-reads
 use Rattle.words.proofs.each.put_bits.Reads as put-bits-reads
 
-listed-at-requires : tie.Need-listed-at-requires
-listed-at-requires c κs = search needs
+find-requires : tie.Need-find-requires
+find-requires c κs = search needs
 
 mul-from : tie.Need-mul-from
 mul-from c = omega (arith, word-end _ _ (c .before .before .before .before .before .args .w) (c .if1 .taken))
@@ -30,4 +30,4 @@ returns-2 c = search (needs, write-unlisted)
 pub write-known-spec : {M : Type 1} → statement M
 write-known-spec =
     tie.close
-    (tie.spec listed-at-requires mul-from put-bits-requires same-length returns returns-2)
+    (tie.spec find-requires mul-from put-bits-requires same-length returns returns-2)
