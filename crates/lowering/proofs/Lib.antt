@@ -37,3 +37,4 @@ pub mod Caps
 pub mod RootFacts
 pub mod LowerFacts
 pub mod PromiseLaws
+pub mod Answers
