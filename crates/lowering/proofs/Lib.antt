@@ -9,3 +9,4 @@ pub mod RootFacts
 pub mod LowerFacts
 pub mod PromiseLaws
 pub mod Unique
+pub mod Answers

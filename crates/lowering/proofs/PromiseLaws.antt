@@ -65,17 +65,17 @@ constraintCount ConstraintRoom = 0
 constraintCount (ZeroDivisor k) = 0
 
 -- a lowering that was done: the table was accepted, nothing stopped it, and this is what the buffers hold
-record Finished (S : Source) (g c m : List ℕ) (n k : ℕ) (r : Run) : Type 0 where
-  accepted : Accepted S g c m
-  runs : lowered S g c .core .stop ≡ 0
-  count : lowered S g c .core .net .n ≡ n
-  asks : lowered S g c .core .nc ≡ k
-  gates : r .gates ≡ lowered S g c .core .net .gates
-  cons : r .cons ≡ lowered S g c .core .cons
-  map : r .map ≡ lowered S g c .core .map ++ drop (totalOf S) m
+pub record Finished (S : Source) (g c m : List ℕ) (n k : ℕ) (r : Run) : Type 0 where
+  pub accepted : Accepted S g c m
+  pub runs : lowered S g c .core .stop ≡ 0
+  pub count : lowered S g c .core .net .n ≡ n
+  pub asks : lowered S g c .core .nc ≡ k
+  pub gates : r .gates ≡ lowered S g c .core .net .gates
+  pub cons : r .cons ≡ lowered S g c .core .cons
+  pub map : r .map ≡ lowered S g c .core .map ++ drop (totalOf S) m
 
 module _ (S : Source) (g c m : List ℕ) (n k : ℕ) where
-  abbrev Ends : Run → Type 0
+  abbrev pub Ends : Run → Type 0
   Ends r = r .answer ≡ Done n k → Finished S g c m n k r
 
   finished-end : Accepted S g c m → Ends (ended S g c m (lowered S g c))
@@ -98,7 +98,7 @@ module _ (S : Source) (g c m : List ℕ) (n k : ℕ) where
         constraints = ltb-false (conRecords c) (sums S .constraints) d;
       }))))
 
-  finished : Ends (lowerAll S g c m)
+  pub finished : Ends (lowerAll S g c m)
   unfolding lowerAll isDone
   finished =
       by-pick Ends (isClear (tableFault (S .table) (S .addrs) (S .word))) _ _ (λ h. finished-clear (is-clear (tableFault (S .table) (S .addrs) (S .word)) (ap (λ (b : Bool). not b) h))) (λ _ e. clash (sym (ap isDone e)))

@@ -1,0 +1,3 @@
+pub mod Printed
+pub mod Lent
+pub mod Counted
