@@ -16,9 +16,10 @@ use Rattle.visits.proofs.Roots.{start-fit, rooted}
 use Rattle.visits.proofs.Small.{net-invariant, start-net}
 use Rattle.lowering.specs.declared.lower.Answer.{Answer}
 use Rattle.lowering.specs.declared.lower.Answer.the-variants.{Done}
-use Rattle.lowering.specs.Source.{Source}
-use Rattle.lowering.specs.Lower.{recipe, Run, run, start, lowered, lowerAll, Accepted}
-use Rattle.lowering.proofs.ShapeLaws.{shape}
+use Rattle.nodes.specs.Source.{Source}
+use Rattle.nodes.specs.Recipe.{recipe}
+use Rattle.lowering.specs.Lower.{Run, run, start, lowered, lowerAll, Accepted}
+use Rattle.nodes.proofs.ShapeLaws.{shape}
 use Rattle.lowering.proofs.StartLaws.{starts}
 use Rattle.lowering.proofs.VisitFacts.{own-steps}
 use Rattle.lowering.proofs.PromiseLaws.{Finished, Ends, finished}
