@@ -1,0 +1,133 @@
+//! A safe wrapper over the static library: slices in, slices lent, numbers back.
+//!
+//! The library promises its answer for any numbers in these slices and asks nothing else of its caller, so that nothing here tests anything. What a
+//! proof cannot ask of a caller in another language, that pointers are valid and that what is written is lent to nobody else, Rust's borrows give.
+
+/// Numbers a node of a table has: kind, width, a, b, c, imm.
+pub const NODE: usize = 6;
+/// u32 a gate: kind, x, y, z.
+pub const GATE: usize = 4;
+/// u32 a constraint: gate, value.
+pub const CONSTRAINT: usize = 2;
+/// What the map holds for the bits of a node that was not reached.
+pub const UNREACHED: u32 = u32::MAX;
+
+/// A number of the refusal sheet, 1 to 13, and the node or gate beside it (0 for none).
+#[derive(Clone, Copy, Debug, PartialEq, Eq)]
+pub struct Refusal {
+    pub number: u64,
+    pub node: usize,
+}
+
+/// How many records of the lent gates and constraints were written.
+#[derive(Clone, Copy, Debug, PartialEq, Eq)]
+pub struct Lowered {
+    pub gates: usize,
+    pub constraints: usize,
+}
+
+mod raw {
+    extern "C" {
+        pub fn ramstitcher_lower(
+            table: *const u64,
+            table_length: usize,
+            addresses: *const u64,
+            addresses_length: usize,
+            word: u64,
+            gates: *mut u32,
+            gates_length: usize,
+            constraints: *mut u32,
+            constraints_length: usize,
+            map: *mut u32,
+            map_length: usize,
+            node: *mut usize,
+            gate_count: *mut usize,
+            constraint_count: *mut usize,
+        ) -> u64;
+        pub fn ramstitcher_eval_words(
+            table: *const u64,
+            table_length: usize,
+            addresses: *const u64,
+            addresses_length: usize,
+            word: u64,
+            values: *mut u64,
+            values_length: usize,
+            node: *mut usize,
+        ) -> u64;
+        pub fn ramstitcher_eval_gates(
+            gates: *const u32,
+            gates_length: usize,
+            values: *mut u8,
+            values_length: usize,
+            gate: *mut usize,
+        ) -> u64;
+    }
+}
+
+fn answer(number: u64, node: usize) -> Result<(), Refusal> {
+    if number == 0 {
+        Ok(())
+    } else {
+        Err(Refusal { number, node })
+    }
+}
+
+/// Lowers a table into the lent buffers. Refusal 10 leaves them all zero, every other refusal as they were.
+pub fn lower(
+    table: &[u64],
+    addresses: &[u64],
+    word: u64,
+    gates: &mut [u32],
+    constraints: &mut [u32],
+    map: &mut [u32],
+) -> Result<Lowered, Refusal> {
+    let (mut node, mut made, mut held) = (0, 0, 0);
+    // SAFETY: each pointer and length is of one slice, and the slices that are written are borrowed for this call alone.
+    let number = unsafe {
+        raw::ramstitcher_lower(
+            table.as_ptr(),
+            table.len(),
+            addresses.as_ptr(),
+            addresses.len(),
+            word,
+            gates.as_mut_ptr(),
+            gates.len(),
+            constraints.as_mut_ptr(),
+            constraints.len(),
+            map.as_mut_ptr(),
+            map.len(),
+            &mut node,
+            &mut made,
+            &mut held,
+        )
+    };
+    answer(number, node).map(|()| Lowered { gates: made, constraints: held })
+}
+
+/// The values of all nodes: given slots are read, the others worked out. A refusal leaves the slots as they were.
+pub fn eval_words(table: &[u64], addresses: &[u64], word: u64, values: &mut [u64]) -> Result<(), Refusal> {
+    let mut node = 0;
+    // SAFETY: as above.
+    let number = unsafe {
+        raw::ramstitcher_eval_words(
+            table.as_ptr(),
+            table.len(),
+            addresses.as_ptr(),
+            addresses.len(),
+            word,
+            values.as_mut_ptr(),
+            values.len(),
+            &mut node,
+        )
+    };
+    answer(number, node)
+}
+
+/// The values of a gate list, one byte a gate: free gates are read, the others worked out. A refusal leaves the bytes as they were.
+pub fn eval_gates(gates: &[u32], values: &mut [u8]) -> Result<(), Refusal> {
+    let mut gate = 0;
+    // SAFETY: as above.
+    let number =
+        unsafe { raw::ramstitcher_eval_gates(gates.as_ptr(), gates.len(), values.as_mut_ptr(), values.len(), &mut gate) };
+    answer(number, gate)
+}

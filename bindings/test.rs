@@ -1,0 +1,68 @@
+// The Rust wrapper against the library, with a model beyond the program's rooms: 512 nodes, each word 64 wide.
+use ramstitcher::{eval_gates, eval_words, lower, Lowered, Refusal, CONSTRAINT, GATE, UNREACHED};
+
+fn first_table() {
+    let table = [[2, 1, 0, 0, 0, 0], [4, 1, 1, 0, 0, 0], [5, 1, 2, 0, 0, 0]].concat();
+    let (mut gates, mut map) = ([0u32; 16], [0u32; 3]);
+    assert_eq!(lower(&table, &[], 2, &mut gates, &mut [], &mut map), Ok(Lowered { gates: 4, constraints: 0 }));
+    assert_eq!(gates, [0, 0, 0, 0, 1, 0, 0, 0, 2, 1, 0, 0, 3, 2, 0, 0]);
+    assert_eq!(map, [2, 3, 3]);
+    let mut values = [9, 9, 0, 9];
+    assert_eq!(eval_gates(&gates, &mut values), Ok(()));
+    assert_eq!(values, [0, 1, 0, 1]);
+    assert_eq!(eval_gates(&gates[..15], &mut values), Err(Refusal { number: 11, node: 0 }));
+    assert_eq!(lower(&table[..17], &[], 2, &mut gates, &mut [], &mut map), Err(Refusal { number: 1, node: 0 }));
+    assert_eq!(lower(&table, &[4], 2, &mut gates, &mut [], &mut map), Err(Refusal { number: 2, node: 0 }));
+    assert_eq!(lower(&table, &[], 2, &mut gates[..12], &mut [], &mut map), Err(Refusal { number: 7, node: 0 }));
+}
+
+// Squares summed up: the bits that the gates give are the words that the word evaluator gives.
+fn large_model() {
+    let mut table = vec![[2u64, 64, 0, 0, 0, 0], [2, 64, 0, 0, 0, 0]];
+    while table.len() < 510 {
+        let last = table.len() as u64;
+        let kind = if last % 50 == 3 { 13 } else { 9 };
+        table.push([kind, 64, last, 1 + last % 2, 0, 0]);
+    }
+    table.push([8, 1, 510, 1, 0, 0]);
+    table.push([5, 1, 511, 0, 0, 0]);
+    let flat = table.concat();
+    let ceiling = |n: &[u64; 6]| match n[0] {
+        2 => 64,
+        9 => 192,
+        13 => 2 * 64 * 65,
+        8 => 191,
+        _ => 0,
+    };
+    let room: usize = 2 + table.iter().map(ceiling).sum::<usize>();
+    let places: usize = table.iter().map(|n| n[1] as usize).sum();
+    let (mut gates, mut map) = (vec![0u32; GATE * room], vec![0u32; places + 1]);
+    map[places] = 17;
+    let made = lower(&flat, &[], 64, &mut gates, &mut [0; CONSTRAINT], &mut map).unwrap();
+    assert!(made.gates > 100_000 && made.gates <= room && made.constraints == 0);
+    assert!(map[places] == 17 && !map[..places].contains(&UNREACHED));
+
+    let (x, y) = (0x0123_4567_89ab_cdefu64, 0xfedc_ba98_7654_3211u64);
+    let mut words = vec![0u64; table.len()];
+    (words[0], words[1]) = (x, y);
+    assert_eq!(eval_words(&flat, &[], 64, &mut words), Ok(()));
+    let mut bits = vec![0u8; made.gates];
+    for j in 0..64 {
+        bits[map[j] as usize] = (x >> j & 1) as u8;
+        bits[map[64 + j] as usize] = (y >> j & 1) as u8;
+    }
+    assert_eq!(eval_gates(&gates[..GATE * made.gates], &mut bits), Ok(()));
+    let mut at = 0;
+    for (k, node) in table.iter().enumerate() {
+        let value = (0..node[1] as usize).fold(0, |v, j| v | (bits[map[at + j] as usize] as u64) << j);
+        assert_eq!(value, words[k], "node {}", k + 1);
+        at += node[1] as usize;
+    }
+    assert_eq!(eval_words(&flat, &[], 64, &mut words[..511]), Err(Refusal { number: 12, node: 0 }));
+}
+
+fn main() {
+    first_table();
+    large_model();
+    println!("bindings, Rust: ok");
+}

@@ -1,0 +1,95 @@
+// The three entry points for C and Rust. Numbers and slices alone cross: a slice is a pointer and a length, and what stands beside a refusal is
+// stored through a reference. Nothing is asked of the caller beyond what bindings/ramstitcher.h says of pointers.
+ghost use mathlib.Core.Path.{_≡_};
+ghost use Rattle.lowering.specs.Source.{source};
+ghost use Rattle.lowering.specs.Promise.{Promise};
+ghost use Rattle.lowering.specs.Lower as low;
+ghost use Rattle.values.specs.Eval as words;
+ghost use Rattle.netlist.specs.Check as check;
+ghost use Rattle.netlist.specs.Eval as list;
+ghost use Rattle.ffi.specs.Count.{gateCount, constraintCount, lowerAnswer};
+use lowering::lower::Answer;
+
+// How many gates an answer speaks of; none where it refuses.
+fn gates_of(a: Answer) -> usize
+    ensures { λ r. ⌜ r ≡ gateCount a ⌝ }
+{
+    match a {
+        Answer::Done { gates, .. } => gates,
+        Answer::Table(_) => 0,
+        Answer::GateRoom => 0,
+        Answer::BitRoom => 0,
+        Answer::ConstraintRoom => 0,
+        Answer::ZeroDivisor(_) => 0,
+    }
+}
+
+// And how many constraints.
+fn constraints_of(a: Answer) -> usize
+    ensures { λ r. ⌜ r ≡ constraintCount a ⌝ }
+{
+    match a {
+        Answer::Done { constraints, .. } => constraints,
+        Answer::Table(_) => 0,
+        Answer::GateRoom => 0,
+        Answer::BitRoom => 0,
+        Answer::ConstraintRoom => 0,
+        Answer::ZeroDivisor(_) => 0,
+    }
+}
+
+// The lowering. Returns the number on the refusal sheet, 0 for none.
+#[no_mangle]
+pub extern "C" fn ramstitcher_lower(
+    table: &[u64],
+    addrs: &[u64],
+    word: u64,
+    gates: &mut [u32],
+    constraints: &mut [u32],
+    map: &mut [u32],
+    node: &mut usize,
+    made: &mut usize,
+    held: &mut usize,
+) -> u64
+    ensures { λ _. ⌜ Promise (source (now (table .entry)) (now (addrs .entry)) word) (now (gates .entry)) (now (constraints .entry)) (now (map .entry)) (lowerAnswer (now (table .entry)) (now (addrs .entry)) word (now (gates .entry)) (now (constraints .entry)) (now (map .entry))) (now (gates .exit)) (now (constraints .exit)) (now (map .exit)) ⌝ }
+    ensures { λ r. ⌜ r ≡ low.number (lowerAnswer (now (table .entry)) (now (addrs .entry)) word (now (gates .entry)) (now (constraints .entry)) (now (map .entry))) ⌝ }
+    ensures { λ _. ⌜ now (node .exit) ≡ low.node (lowerAnswer (now (table .entry)) (now (addrs .entry)) word (now (gates .entry)) (now (constraints .entry)) (now (map .entry))) ⌝ }
+    ensures { λ _. ⌜ now (made .exit) ≡ gateCount (lowerAnswer (now (table .entry)) (now (addrs .entry)) word (now (gates .entry)) (now (constraints .entry)) (now (map .entry))) ⌝ }
+    ensures { λ _. ⌜ now (held .exit) ≡ constraintCount (lowerAnswer (now (table .entry)) (now (addrs .entry)) word (now (gates .entry)) (now (constraints .entry)) (now (map .entry))) ⌝ }
+{
+    let a = lowering::lower::lower(table, addrs, word, gates, constraints, map);
+    *node = lowering::lower::node(a);
+    *made = gates_of(a);
+    *held = constraints_of(a);
+    lowering::lower::number(a)
+}
+
+// The word evaluator.
+#[no_mangle]
+pub extern "C" fn ramstitcher_eval_words(
+    table: &[u64],
+    addrs: &[u64],
+    word: u64,
+    values: &mut [u64],
+    node: &mut usize,
+) -> u64
+    ensures { λ r. ⌜ r ≡ words.number (words.evalWords (now (table .entry)) (now (addrs .entry)) word (now (values .entry)) .answer) ⌝ }
+    ensures { λ _. ⌜ now (node .exit) ≡ words.node (words.evalWords (now (table .entry)) (now (addrs .entry)) word (now (values .entry)) .answer) ⌝ }
+    ensures { λ _. ⌜ now (values .exit) ≡ words.evalWords (now (table .entry)) (now (addrs .entry)) word (now (values .entry)) .values ⌝ }
+{
+    let a = values::eval::eval_words(table, addrs, word, values);
+    *node = values::eval::node(a);
+    values::eval::number(a)
+}
+
+// The gate evaluator.
+#[no_mangle]
+pub extern "C" fn ramstitcher_eval_gates(gates: &[u32], values: &mut [u8], gate: &mut usize) -> u64
+    ensures { λ r. ⌜ r ≡ check.number (list.evalGates (now (gates .entry)) (now (values .entry)) .answer) ⌝ }
+    ensures { λ _. ⌜ now (gate .exit) ≡ check.place (list.evalGates (now (gates .entry)) (now (values .entry)) .answer) ⌝ }
+    ensures { λ _. ⌜ now (values .exit) ≡ list.evalGates (now (gates .entry)) (now (values .entry)) .values ⌝ }
+{
+    let a = netlist::eval::eval_gates(gates, values);
+    *gate = netlist::check::place(a);
+    netlist::check::number(a)
+}
