@@ -3,7 +3,7 @@ use mathlib.Core.Path.{_≡_, ap, _∙_, subst}
 use mathlib.Core.List.{List}
 use Prim.Native.Nat.{ℕ}
 use Rattle.lowering.specs.declared.lower.Answer.{Answer}
-use Rattle.lowering.specs.Source.{source}
+use Rattle.nodes.specs.Source.{source}
 use Rattle.lowering.specs.Lower as low
 use Rattle.lowering.specs.Promise.{Promise}
 use Rattle.values.specs.declared.Answer as value

@@ -3,7 +3,7 @@ use mathlib.Core.List.{List}
 use Prim.Native.Nat.{ℕ}
 use Rattle.lowering.specs.declared.lower.Answer.{Answer}
 use Rattle.lowering.specs.declared.lower.Answer.the-variants.{Done, Table, GateRoom, BitRoom, ConstraintRoom, ZeroDivisor}
-use Rattle.lowering.specs.Source.{source}
+use Rattle.nodes.specs.Source.{source}
 use Rattle.lowering.specs.Lower.{lowerAll}
 
 -- gates made, 0 beside a refusal

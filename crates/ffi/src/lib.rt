@@ -1,7 +1,7 @@
 // The three entry points for C and Rust. Numbers and slices alone cross: a slice is a pointer and a length, and what stands beside a refusal is
 // stored through a reference. Nothing is asked of the caller beyond what bindings/ramstitcher.h says of pointers.
 ghost use mathlib.Core.Path.{_≡_};
-ghost use Rattle.lowering.specs.Source.{source};
+ghost use Rattle.nodes.specs.Source.{source};
 ghost use Rattle.lowering.specs.Promise.{Promise};
 ghost use Rattle.lowering.specs.Lower as low;
 ghost use Rattle.values.specs.Eval as words;
