@@ -1,0 +1,153 @@
+//! Two answers held against each other.
+use crate::model::*;
+use crate::ours::Ours;
+use crate::theirs::{self, Theirs};
+
+/// What may differ at a node. `MoreOfSub`, `MoreOfUlt` and `Fewer` follow from document 01's recipe for sub and ult, which knows more bits; they are
+/// allowed where one of these is reached over a right operand that the original does not wholly know.
+#[derive(Clone, Copy, PartialEq, Eq, Debug)]
+pub enum Difference {
+    /// Refused here, or a constraint recorded: nothing of the shared domain is.
+    Refused,
+    /// Another number of bits.
+    Length,
+    /// Reached here only.
+    ReachedHere,
+    /// Known there and not here.
+    Lost,
+    /// Another value under the given inputs; for a known bit that is another constant.
+    Value,
+    /// Our gates and our word evaluator give different values.
+    Words,
+    /// Known here only, at a node that is neither sub nor ult and none of whose operands has such a bit.
+    More,
+    /// Known here only, at a sub none of whose operands has such a bit.
+    MoreOfSub,
+    /// The same at an ult.
+    MoreOfUlt,
+    /// Reached there only.
+    Fewer,
+}
+
+pub const KINDS: [Difference; 10] = [
+    Difference::Refused,
+    Difference::Length,
+    Difference::ReachedHere,
+    Difference::Lost,
+    Difference::Value,
+    Difference::Words,
+    Difference::More,
+    Difference::MoreOfSub,
+    Difference::MoreOfUlt,
+    Difference::Fewer,
+];
+
+/// A table of the shared domain, compared.
+pub struct Compared {
+    /// Each kind of difference with the first node that shows it.
+    pub found: Vec<(Difference, usize)>,
+    /// No sub or ult is reached there, or their right operands are wholly known there: then nothing at all may differ.
+    pub plain: bool,
+    pub theirs: Answer,
+    pub reached_in_both: usize,
+    pub known_in_both: u64,
+    pub known_here: u64,
+    pub bits: u64,
+}
+
+pub enum Outcome {
+    Stopped(String),
+    Divides,
+    Compared(Compared),
+}
+
+impl Compared {
+    pub fn has(&self, kind: Difference) -> bool {
+        self.found.iter().any(|(d, _)| *d == kind)
+    }
+
+    /// The differences that are not allowed.
+    pub fn wrong(&self) -> Vec<(Difference, usize)> {
+        let allowed = |d| !self.plain && matches!(d, Difference::MoreOfSub | Difference::MoreOfUlt | Difference::Fewer);
+        self.found.iter().copied().filter(|(d, _)| !allowed(*d)).collect()
+    }
+
+    fn note(&mut self, kind: Difference, node: usize) {
+        if !self.has(kind) {
+            self.found.push((kind, node));
+        }
+    }
+}
+
+fn plain(table: &Table, theirs: &Answer) -> bool {
+    let wholly = |k: usize| theirs.nodes[k - 1].as_ref().is_some_and(|bits| bits.known == mask(bits.count as u64));
+    table.nodes.iter().zip(&theirs.nodes).all(|(n, bits)| bits.is_none() || (n.kind != SUB && n.kind != ULT) || wholly(n.operands[1]))
+}
+
+fn at_node(c: &mut Compared, k: usize, theirs: &Bits, ours: &Bits, words: &[Vec<u64>]) {
+    if theirs.count != ours.count {
+        c.note(Difference::Length, k + 1);
+    }
+    if theirs.known & !ours.known != 0 {
+        c.note(Difference::Lost, k + 1);
+    }
+    if theirs.values != ours.values {
+        c.note(Difference::Value, k + 1);
+    }
+    if ours.values.iter().zip(words).any(|(value, words)| *value != words[k]) {
+        c.note(Difference::Words, k + 1);
+    }
+    c.reached_in_both += 1;
+    c.known_in_both += (theirs.known & ours.known).count_ones() as u64;
+    c.known_here += ours.known.count_ones() as u64;
+    c.bits += ours.count as u64;
+}
+
+/// Bits that are known here only begin at a sub or an ult, and are handed on from there.
+fn more(c: &mut Compared, table: &Table, theirs: &Answer, ours: &Answer) {
+    let has = |k: usize| match (&theirs.nodes[k - 1], &ours.nodes[k - 1]) {
+        (Some(there), Some(here)) => here.known & !there.known != 0,
+        _ => false,
+    };
+    for (i, n) in table.nodes.iter().enumerate() {
+        if has(i + 1) && !n.operands.iter().any(|k| *k > 0 && has(*k)) {
+            let kind = match n.kind {
+                SUB => Difference::MoreOfSub,
+                ULT => Difference::MoreOfUlt,
+                _ => Difference::More,
+            };
+            c.note(kind, i + 1);
+        }
+    }
+}
+
+pub fn compare(table: &Table, given: &[Given], ours: &mut Ours) -> Outcome {
+    let theirs = match theirs::lower(table, given) {
+        Theirs::Stopped(why) => return Outcome::Stopped(why),
+        Theirs::Divides => return Outcome::Divides,
+        Theirs::Lowered(answer) => answer,
+    };
+    let plain = plain(table, &theirs);
+    let empty = Answer { nodes: Vec::new(), constraints: 0 };
+    let mut c = Compared { found: Vec::new(), plain, theirs: empty, reached_in_both: 0, known_in_both: 0, known_here: 0, bits: 0 };
+    let words: Result<Vec<Vec<u64>>, _> = given.iter().map(|g| ours.words(table, g)).collect();
+    match (ours.lower(table, given), words) {
+        (Ok(here), Ok(words)) => {
+            if here.constraints + theirs.constraints != 0 {
+                c.note(Difference::Refused, 0);
+            }
+            for (k, both) in theirs.nodes.iter().zip(&here.nodes).enumerate() {
+                match both {
+                    (Some(there), Some(here)) => at_node(&mut c, k, there, here, &words),
+                    (Some(_), None) => c.note(Difference::Fewer, k + 1),
+                    (None, Some(_)) => c.note(Difference::ReachedHere, k + 1),
+                    (None, None) => (),
+                }
+            }
+            more(&mut c, table, &theirs, &here);
+        }
+        (Err(refusal), _) | (_, Err(refusal)) => c.note(Difference::Refused, refusal.node),
+    }
+    c.theirs = theirs;
+    Outcome::Compared(c)
+}
