@@ -3,6 +3,7 @@ use mathlib.Core.Path.{_≡_, ap, _∙_, subst}
 use mathlib.Core.List.{List}
 use Prim.Native.Nat.{ℕ}
 use Rattle.lowering.specs.declared.lower.Answer.{Answer}
+use Rattle.lowering.specs.declared.lower.Counts.{Counts}
 use Rattle.nodes.specs.Source.{source}
 use Rattle.lowering.specs.Lower as low
 use Rattle.lowering.specs.Promise.{Promise}
@@ -11,7 +12,7 @@ use Rattle.values.specs.Eval as words
 use Rattle.netlist.specs.declared.check.Answer as gate
 use Rattle.netlist.specs.Check as check
 use Rattle.netlist.specs.Eval as list
-use Rattle.ffi.specs.Count.{gateCount, constraintCount, lowerAnswer}
+use Rattle.ffi.specs.Count.{gatesMade, constraintsHeld, lowerAnswer}
 
 pub words-cross : (u : words.Run) (a : value.Answer) (v : List ℕ) (r k : ℕ) → words.run a v ≡ u → r ≡ words.number a → k ≡ words.node a
     → (r ≡ words.number (u .answer)) × ((k ≡ words.node (u .answer)) × (v ≡ u .values))
@@ -24,9 +25,10 @@ gates-cross u a v r k e p q = (p ∙ ap (λ (x : list.Run). check.number (x .ans
 same : (t l : List ℕ) (w : ℕ) (g c m : List ℕ) (a : Answer) (g′ c′ m′ : List ℕ) → Promise (source t l w) g c m a g′ c′ m′ → a ≡ lowerAnswer t l w g c m
 same t l w g c m a g′ c′ m′ p = ap (λ (x : low.Run). x .answer) (p .answer)
 
-pub lower-cross : (t l : List ℕ) (w : ℕ) (g c m : List ℕ) (a : Answer) (g′ c′ m′ : List ℕ) (r k n h : ℕ)
-    → Promise (source t l w) g c m a g′ c′ m′ → r ≡ low.number a → k ≡ low.node a → n ≡ gateCount a → h ≡ constraintCount a
-    → Promise (source t l w) g c m (lowerAnswer t l w g c m) g′ c′ m′ × ((r ≡ low.number (lowerAnswer t l w g c m)) × ((k ≡ low.node (lowerAnswer t l w g c m)) × ((n ≡ gateCount (lowerAnswer t l w g c m)) × (h ≡ constraintCount (lowerAnswer t l w g c m)))))
-lower-cross t l w g c m a g′ c′ m′ r k n h p is at made held =
+pub lower-cross : (t l : List ℕ) (w : ℕ) (g c m : List ℕ) (a : Answer) (g′ c′ m′ : List ℕ) (r k : ℕ) (b : Counts)
+    → Promise (source t l w) g c m a g′ c′ m′ → r ≡ low.number a → k ≡ low.node a → b ≡ low.countsOf a
+    → Promise (source t l w) g c m (lowerAnswer t l w g c m) g′ c′ m′ × ((r ≡ low.number (lowerAnswer t l w g c m)) × ((k ≡ low.node (lowerAnswer t l w g c m)) × ((b .gates ≡ gatesMade (lowerAnswer t l w g c m)) × (b .constraints ≡ constraintsHeld (lowerAnswer t l w g c m)))))
+lower-cross t l w g c m a g′ c′ m′ r k b p is at counted =
     let e = same t l w g c m a g′ c′ m′ p in
-    (subst (λ (x : Answer). Promise (source t l w) g c m x g′ c′ m′) e p, (is ∙ ap low.number e, (at ∙ ap low.node e, (made ∙ ap gateCount e, held ∙ ap constraintCount e))))
+    let q : b ≡ low.countsOf (lowerAnswer t l w g c m) = counted ∙ ap low.countsOf e in
+    (subst (λ (x : Answer). Promise (source t l w) g c m x g′ c′ m′) e p, (is ∙ ap low.number e, (at ∙ ap low.node e, (ap (λ (x : Counts). x .gates) q, ap (λ (x : Counts). x .constraints) q))))

@@ -2,27 +2,15 @@
 use mathlib.Core.List.{List}
 use Prim.Native.Nat.{ℕ}
 use Rattle.lowering.specs.declared.lower.Answer.{Answer}
-use Rattle.lowering.specs.declared.lower.Answer.the-variants.{Done, Table, GateRoom, BitRoom, ConstraintRoom, ZeroDivisor}
 use Rattle.nodes.specs.Source.{source}
-use Rattle.lowering.specs.Lower.{lowerAll}
+use Rattle.lowering.specs.Lower.{countsOf, lowerAll}
 
--- gates made, 0 beside a refusal
-abbrev pub gateCount : Answer → ℕ
-gateCount (Done g c) = g
-gateCount (Table f) = 0
-gateCount GateRoom = 0
-gateCount BitRoom = 0
-gateCount ConstraintRoom = 0
-gateCount (ZeroDivisor k) = 0
+-- gates made and constraints recorded, 0 beside a refusal
+abbrev pub gatesMade : Answer → ℕ
+gatesMade a = countsOf a .gates
 
--- constraints recorded, 0 beside a refusal
-abbrev pub constraintCount : Answer → ℕ
-constraintCount (Done g c) = c
-constraintCount (Table f) = 0
-constraintCount GateRoom = 0
-constraintCount BitRoom = 0
-constraintCount ConstraintRoom = 0
-constraintCount (ZeroDivisor k) = 0
+abbrev pub constraintsHeld : Answer → ℕ
+constraintsHeld a = countsOf a .constraints
 
 -- the answer for a table, listed addresses, a word width and the three lent buffers
 abbrev pub lowerAnswer : List ℕ → List ℕ → ℕ → List ℕ → List ℕ → List ℕ → Answer

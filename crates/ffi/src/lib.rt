@@ -7,37 +7,7 @@ ghost use Rattle.lowering.specs.Lower as low;
 ghost use Rattle.values.specs.Eval as words;
 ghost use Rattle.netlist.specs.Check as check;
 ghost use Rattle.netlist.specs.Eval as list;
-ghost use Rattle.ffi.specs.Count.{gateCount, constraintCount, lowerAnswer};
-use lowering::lower::Answer;
-
-// How many gates an answer speaks of; none where it refuses.
-fn gates_of(a: Answer) -> usize
-    ensures { λ r. ⌜ r ≡ gateCount a ⌝ }
-{
-    match a {
-        Answer::Done { gates, .. } => gates,
-        Answer::Table(_) => 0,
-        Answer::GateRoom => 0,
-        Answer::BitRoom => 0,
-        Answer::ConstraintRoom => 0,
-        Answer::ZeroDivisor(_) => 0,
-    }
-}
-
-// And how many constraints.
-fn constraints_of(a: Answer) -> usize
-    ensures { λ r. ⌜ r ≡ constraintCount a ⌝ }
-{
-    match a {
-        Answer::Done { constraints, .. } => constraints,
-        Answer::Table(_) => 0,
-        Answer::GateRoom => 0,
-        Answer::BitRoom => 0,
-        Answer::ConstraintRoom => 0,
-        Answer::ZeroDivisor(_) => 0,
-    }
-}
-
+ghost use Rattle.ffi.specs.Count.{gatesMade, constraintsHeld, lowerAnswer};
 // The lowering. Returns the number on the refusal sheet, 0 for none.
 #[no_mangle]
 pub extern "C" fn ramstitcher_lower(
@@ -54,13 +24,14 @@ pub extern "C" fn ramstitcher_lower(
     ensures { λ _. ⌜ Promise (source (now (table .entry)) (now (addrs .entry)) word) (now (gates .entry)) (now (constraints .entry)) (now (map .entry)) (lowerAnswer (now (table .entry)) (now (addrs .entry)) word (now (gates .entry)) (now (constraints .entry)) (now (map .entry))) (now (gates .exit)) (now (constraints .exit)) (now (map .exit)) ⌝ }
     ensures { λ r. ⌜ r ≡ low.number (lowerAnswer (now (table .entry)) (now (addrs .entry)) word (now (gates .entry)) (now (constraints .entry)) (now (map .entry))) ⌝ }
     ensures { λ _. ⌜ now (node .exit) ≡ low.node (lowerAnswer (now (table .entry)) (now (addrs .entry)) word (now (gates .entry)) (now (constraints .entry)) (now (map .entry))) ⌝ }
-    ensures { λ _. ⌜ now (made .exit) ≡ gateCount (lowerAnswer (now (table .entry)) (now (addrs .entry)) word (now (gates .entry)) (now (constraints .entry)) (now (map .entry))) ⌝ }
-    ensures { λ _. ⌜ now (held .exit) ≡ constraintCount (lowerAnswer (now (table .entry)) (now (addrs .entry)) word (now (gates .entry)) (now (constraints .entry)) (now (map .entry))) ⌝ }
+    ensures { λ _. ⌜ now (made .exit) ≡ gatesMade (lowerAnswer (now (table .entry)) (now (addrs .entry)) word (now (gates .entry)) (now (constraints .entry)) (now (map .entry))) ⌝ }
+    ensures { λ _. ⌜ now (held .exit) ≡ constraintsHeld (lowerAnswer (now (table .entry)) (now (addrs .entry)) word (now (gates .entry)) (now (constraints .entry)) (now (map .entry))) ⌝ }
 {
     let a = lowering::lower::lower(table, addrs, word, gates, constraints, map);
     *node = lowering::lower::node(a);
-    *made = gates_of(a);
-    *held = constraints_of(a);
+    let counts = lowering::lower::count(a);
+    *made = counts.gates;
+    *held = counts.constraints;
     lowering::lower::number(a)
 }
 

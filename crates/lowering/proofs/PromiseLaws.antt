@@ -27,7 +27,7 @@ use Rattle.lowering.specs.declared.lower.Answer.the-variants.{Done, Tabl
 use Rattle.nodes.specs.Source.{Source, totalOf, gatesOf}
 use Rattle.nodes.specs.Own.{ownStep}
 use Rattle.nodes.specs.Recipe.{recipe}
-use Rattle.lowering.specs.Lower.{Run, run, start, lowered, sums, conRecords, ended, lowerClear, lowerAll, Accepted, number}
+use Rattle.lowering.specs.Lower.{Run, run, start, lowered, sums, conRecords, ended, lowerClear, lowerAll, Accepted, number, countsOf}
 use Rattle.nodes.specs.Meaning.{meaning}
 use Rattle.nodes.specs.Asked.{coreAt}
 use Rattle.lowering.specs.Promise.{said, Right, Bounded, Promise}
@@ -38,31 +38,6 @@ use Rattle.lowering.proofs.Demands as demands
 use Rattle.lowering.proofs.RightLower as demand2
 use Rattle.nodes.proofs.WordFacts.{clash}
 use Rattle.lowering.proofs.VisitFacts.{own-steps}
-
--- the parts of an answer
-isDone : Answer → Bool
-isDone (Done n k) = true
-isDone (Table f) = false
-isDone GateRoom = false
-isDone BitRoom = false
-isDone ConstraintRoom = false
-isDone (ZeroDivisor k) = false
-
-gateCount : Answer → ℕ
-gateCount (Done n k) = n
-gateCount (Table f) = 0
-gateCount GateRoom = 0
-gateCount BitRoom = 0
-gateCount ConstraintRoom = 0
-gateCount (ZeroDivisor k) = 0
-
-constraintCount : Answer → ℕ
-constraintCount (Done n k) = k
-constraintCount (Table f) = 0
-constraintCount GateRoom = 0
-constraintCount BitRoom = 0
-constraintCount ConstraintRoom = 0
-constraintCount (ZeroDivisor k) = 0
 
 -- a lowering that was done: the table was accepted, nothing stopped it, and this is what the buffers hold
 pub record Finished (S : Source) (g c m : List ℕ) (n k : ℕ) (r : Run) : Type 0 where
@@ -79,18 +54,18 @@ module _ (S : Source) (g c m : List ℕ) (n k : ℕ) where
   Ends r = r .answer ≡ Done n k → Finished S g c m n k r
 
   finished-end : Accepted S g c m → Ends (ended S g c m (lowered S g c))
-  unfolding ended isDone gateCount constraintCount
+  unfolding ended
   finished-end a =
       by-pick Ends (eqb (lowered S g c .core .stop) 0) _ _
-      (λ z e. record { accepted = a; runs = eqb-true (lowered S g c .core .stop) 0 z; count = ap gateCount e; asks = ap constraintCount e; gates = refl; cons = refl; map = refl })
-      (λ _ e. clash (sym (ap isDone e)))
+      (λ z e. record { accepted = a; runs = eqb-true (lowered S g c .core .stop) 0 z; count = ap (λ (x : Answer). countsOf x .gates) e; asks = ap (λ (x : Answer). countsOf x .constraints) e; gates = refl; cons = refl; map = refl })
+      (λ _ e. clash (sym (ap (λ (x : Answer). countsOf x .done) e)))
 
   finished-clear : tableFault (S .table) (S .addrs) (S .word) ≡ Clear → Ends (lowerClear S g c m)
-  unfolding lowerClear isDone
+  unfolding lowerClear
   finished-clear clear =
-      by-pick Ends (ltb (records g) (sums S .gates)) _ _ (λ _ e. clash (sym (ap isDone e)))
-      (λ a. by-pick Ends (ltb (length m) (sums S .map)) _ _ (λ _ e. clash (sym (ap isDone e)))
-      (λ b. by-pick Ends (ltb (conRecords c) (sums S .constraints)) _ _ (λ _ e. clash (sym (ap isDone e)))
+      by-pick Ends (ltb (records g) (sums S .gates)) _ _ (λ _ e. clash (sym (ap (λ (x : Answer). countsOf x .done) e)))
+      (λ a. by-pick Ends (ltb (length m) (sums S .map)) _ _ (λ _ e. clash (sym (ap (λ (x : Answer). countsOf x .done) e)))
+      (λ b. by-pick Ends (ltb (conRecords c) (sums S .constraints)) _ _ (λ _ e. clash (sym (ap (λ (x : Answer). countsOf x .done) e)))
       (λ d. finished-end (record {
         clear = clear;
         gates = ltb-false (records g) (sums S .gates) a;
@@ -99,9 +74,9 @@ module _ (S : Source) (g c m : List ℕ) (n k : ℕ) where
       }))))
 
   pub finished : Ends (lowerAll S g c m)
-  unfolding lowerAll isDone
+  unfolding lowerAll
   finished =
-      by-pick Ends (isClear (tableFault (S .table) (S .addrs) (S .word))) _ _ (λ h. finished-clear (is-clear (tableFault (S .table) (S .addrs) (S .word)) (ap (λ (b : Bool). not b) h))) (λ _ e. clash (sym (ap isDone e)))
+      by-pick Ends (isClear (tableFault (S .table) (S .addrs) (S .word))) _ _ (λ h. finished-clear (is-clear (tableFault (S .table) (S .addrs) (S .word)) (ap (λ (b : Bool). not b) h))) (λ _ e. clash (sym (ap (λ (x : Answer). countsOf x .done) e)))
 
 -- the map keeps its length
 module _ (S : Source) (g c m : List ℕ) (a : Accepted S g c m) where

@@ -1,6 +1,7 @@
 -- The lowering: refusals 1 to 6, then 7, 8, 9, then 10; on success gates, constraints and bit map.
 use mathlib.Core.Path.{_≡_}
 use mathlib.Core.List.{List, _++_}
+use mathlib.Core.Bool.{Bool, true, false}
 use Prim.Native.Nat.{ℕ, _+_, _/_, _≤_}
 use lib.Dec.{eqb, ltb}
 use lib.ListN.{length, drop, replicate}
@@ -14,6 +15,7 @@ use Rattle.table.specs.Ceiling.{sumsOf}
 use Rattle.netlist.specs.Record.{gate, put, records}
 use Rattle.visits.specs.Flow.{Low, lowerTo}
 use Rattle.lowering.specs.declared.lower.Answer.{Answer}
+use Rattle.lowering.specs.declared.lower.Counts.{Counts}
 use Rattle.lowering.specs.declared.lower.Answer.the-variants.{Done, Table, GateRoom, BitRoom, ConstraintRoom, ZeroDivisor}
 use Rattle.nodes.specs.Source.{Source, listed, totalOf}
 use Rattle.nodes.specs.Recipe.{recipe}
@@ -34,6 +36,18 @@ node GateRoom = 0
 node BitRoom = 0
 node ConstraintRoom = 0
 node (ZeroDivisor k) = k
+
+-- an answer taken apart: whether the lowering is done, and how many gates and constraints it then has
+abbrev pub countsAt : Bool → ℕ → ℕ → Counts
+countsAt d n k = record { done = d; gates = n; constraints = k }
+
+abbrev pub countsOf : Answer → Counts
+countsOf (Done n k) = countsAt true n k
+countsOf (Table f) = countsAt false 0 0
+countsOf GateRoom = countsAt false 0 0
+countsOf BitRoom = countsAt false 0 0
+countsOf ConstraintRoom = countsAt false 0 0
+countsOf (ZeroDivisor k) = countsAt false 0 0
 
 -- what is answered, and what the three lent buffers then hold
 pub record Run : Type 0 where

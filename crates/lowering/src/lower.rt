@@ -52,6 +52,53 @@ pub fn node(a: Answer) -> usize
     }
 }
 
+// An answer taken apart: whether the lowering is done, and how many gates and constraints it then has.
+pub struct Counts {
+    pub done: bool,
+    pub gates: usize,
+    pub constraints: usize,
+}
+
+pub fn count(a: Answer) -> Counts
+    ensures { λ r. ⌜ r ≡ spec.countsOf a ⌝ }
+{
+    match a {
+        Answer::Done {
+            gates: n,
+            constraints: k,
+        } => Counts {
+            done: true,
+            gates: n,
+            constraints: k,
+        },
+        Answer::Table(_) => Counts {
+            done: false,
+            gates: 0,
+            constraints: 0,
+        },
+        Answer::GateRoom => Counts {
+            done: false,
+            gates: 0,
+            constraints: 0,
+        },
+        Answer::BitRoom => Counts {
+            done: false,
+            gates: 0,
+            constraints: 0,
+        },
+        Answer::ConstraintRoom => Counts {
+            done: false,
+            gates: 0,
+            constraints: 0,
+        },
+        Answer::ZeroDivisor(_) => Counts {
+            done: false,
+            gates: 0,
+            constraints: 0,
+        },
+    }
+}
+
 // With room for the sums. Where the lowering stopped, the three buffers are left all zero.
 fn lower_room(
     table: &[u64],

@@ -41,9 +41,7 @@ use Rattle.memory.specs.Read.{readKnown, readOne, readStep, readWords}
 use Rattle.memory.specs.Write.{writeKnown, writeStep, writeWords}
 use Rattle.visits.specs.Flow.{owned, enter, mark, visitTo, rootStep, lowerTo}
 use Rattle.visits.specs.Stored.{stored}
-use Rattle.lowering.specs.declared.lower.Answer.{Answer}
-use Rattle.lowering.specs.declared.lower.Answer.the-variants.{Done, Table, GateRoom, BitRoom, ConstraintRoom, ZeroDivisor}
-use Rattle.lowering.specs.Lower.{Run, number, start, ended, lowerClear, lowerAll}
+use Rattle.lowering.specs.Lower.{Run, number, countsOf, start, ended, lowerClear, lowerAll}
 use Rattle.nodes.specs.Own.{wordStep, inputStep, inputWord, shareWord, chooseWord, readWord, plainWord, wordOwn, writeOwn, divideOwn, iteOwn, madeBy, ownStep}
 use Rattle.nodes.specs.Source.{source, offOf, wordsOf, wideOf, bitsOf, gatesOf, asksOf, secondOf, thirdOf, blockedOf}
 
@@ -157,22 +155,6 @@ rows =
     ∷ row (says 25 0 2) 3 ∷ row (says 25 1 2) 1 ∷ row (says 27 0 2) 2 ∷ row (says 27 1 2) 1
     ∷ []
 
-pub madeBy′ : Answer → ℕ
-madeBy′ (Done n k) = n
-madeBy′ (Table f) = 0
-madeBy′ GateRoom = 0
-madeBy′ BitRoom = 0
-madeBy′ ConstraintRoom = 0
-madeBy′ (ZeroDivisor k) = 0
-
-pub recordedBy : Answer → ℕ
-recordedBy (Done n k) = k
-recordedBy (Table f) = 9
-recordedBy GateRoom = 9
-recordedBy BitRoom = 9
-recordedBy ConstraintRoom = 9
-recordedBy (ZeroDivisor k) = 9
-
 abbrev pub place : ℕ → ℕ → ℕ
 place i k = offOf (source table addresses 2) i + k
 
@@ -184,8 +166,8 @@ asked r l v beyond = getD (r .values) 50 0
 asked r l v (gates i) = nodeGates table 2 2 (i - 1)
 asked r l v (constraints i) = nodeConstraints table (i - 1)
 asked r l v lowers = number (l .answer)
-asked r l v made = madeBy′ (l .answer)
-asked r l v recorded = recordedBy (l .answer)
+asked r l v made = countsOf (l .answer) .gates
+asked r l v recorded = countsOf (l .answer) .constraints
 asked r l v (bitOf i k) = getD (l .map) (place i k) 0
 asked r l v (says i j w) = digits.number (λ k. eqb (getD v (getD (l .map) (place i (j * w + k)) 0) 0) 1) w
 
@@ -198,5 +180,5 @@ right r l = all-right r l (evalGates (take (used 13) (l .gates)) given .values) 
 
 -- lent: 1,000 gates, 64 constraints, 1,000 places
 pub small : right (evalWords table addresses 2 before) (lowerAll (source table addresses 2) (replicate 4000 0) (replicate 128 0) (replicate 1000 0)) ≡ true
-unfolding right all-right asked madeBy′ recordedBy pick iter first sum divGates divConstraints memoryGates iteGates plainGates ceiling constraintCeiling nodeGates nodeConstraints sumsOf fieldAt sizeGood isAt addressBad addressesBad operandsGood sortGood sortsGood faultOf nodeFault nodeBad nodesFault tableFault nodeSize offsetOf sizeSum slotWidth slotBad inputBad slotStep nodeStep evalClear evalWords notWord addWord subWord mulWord divWord remWord wordValue readValue writeValue iteValue placeAt slotAt isKnown knownOf byKnown fieldGood constGood laterGood faulty listFault gateValue evalStep outOfRange evalSound evalGates free usesY usesZ valueOf gateAt put twoKnown oneKnown noneKnown adderBit trueSide falseSide bothSides choiceBit muxBit notBit andBit orBit xnorBit added digits.digit digits.number digitStep unknownAt allKnown addStep bitwise eachStep copyStep andStep eqWords mulStep blank subWords ultWords sumWords checkWords putCon constrain conStep divWords freeWord divideWords pairStep rowStep atListed readKnown readOne readStep readWords writeKnown writeStep writeWords owned enter mark visitTo rootStep lowerTo stored start ended lowerClear lowerAll wordStep inputStep inputWord shareWord chooseWord readWord plainWord wordOwn writeOwn divideOwn iteOwn madeBy ownStep wordsOf wideOf bitsOf gatesOf asksOf secondOf thirdOf blockedOf
+unfolding right all-right asked pick iter first sum divGates divConstraints memoryGates iteGates plainGates ceiling constraintCeiling nodeGates nodeConstraints sumsOf fieldAt sizeGood isAt addressBad addressesBad operandsGood sortGood sortsGood faultOf nodeFault nodeBad nodesFault tableFault nodeSize offsetOf sizeSum slotWidth slotBad inputBad slotStep nodeStep evalClear evalWords notWord addWord subWord mulWord divWord remWord wordValue readValue writeValue iteValue placeAt slotAt isKnown knownOf byKnown fieldGood constGood laterGood faulty listFault gateValue evalStep outOfRange evalSound evalGates free usesY usesZ valueOf gateAt put twoKnown oneKnown noneKnown adderBit trueSide falseSide bothSides choiceBit muxBit notBit andBit orBit xnorBit added digits.digit digits.number digitStep unknownAt allKnown addStep bitwise eachStep copyStep andStep eqWords mulStep blank subWords ultWords sumWords checkWords putCon constrain conStep divWords freeWord divideWords pairStep rowStep atListed readKnown readOne readStep readWords writeKnown writeStep writeWords owned enter mark visitTo rootStep lowerTo stored start ended lowerClear lowerAll wordStep inputStep inputWord shareWord chooseWord readWord plainWord wordOwn writeOwn divideOwn iteOwn madeBy ownStep wordsOf wideOf bitsOf gatesOf asksOf secondOf thirdOf blockedOf
 small = refl

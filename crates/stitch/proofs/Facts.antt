@@ -26,14 +26,13 @@ use Rattle.text.proofs.Sizes.{room}
 use Rattle.lowering.specs.declared.lower.Answer.{Answer}
 use Rattle.lowering.specs.declared.lower.Answer.the-variants.{Done, Table, GateRoom, BitRoom, ConstraintRoom, ZeroDivisor}
 use Rattle.nodes.specs.Source.{Source, source, listed, totalOf}
-use Rattle.lowering.specs.Lower.{Run, run, number, node, lowered, lowerAll, marked, Accepted}
+use Rattle.lowering.specs.Lower.{Run, run, number, node, countsOf, lowered, lowerAll, marked, Accepted}
 use Rattle.lowering.specs.Promise.{Promise}
 use Rattle.lowering.proofs.LowerFacts.{map-sum}
 use Rattle.lowering.proofs.Answers.{Made, made}
 use Rattle.stitch.specs.Printed.{GATES, PLACES, CONSTRAINTS, ADDRS, NODES, cleared, gateBuffer, constraintBuffer, bitMap, offsetList, doneLines, refusal, answerLines, runLines, tableLines, plainLines, printed, ROOM}
 use Rattle.stitch.specs.Lent.{TextRoom, Lent}
-use Rattle.stitch.specs.declared.print.Counts.{Counts}
-use Rattle.stitch.specs.Counted.{countsOf}
+use Rattle.lowering.specs.declared.lower.Counts.{Counts}
 
 -- a refusal's line fits
 pub refused-fits : (l : ℕ) → ROOM ≤ l → refusedRoom ≤ l

@@ -9,9 +9,8 @@ ghost use Rattle.nodes.specs.Source.{source};
 ghost use Rattle.lowering.specs.Lower.{Accepted};
 ghost use Rattle.stitch.specs.Printed.{doneLines, tableLines, printed, ROOM};
 ghost use Rattle.stitch.specs.Lent.{TextRoom, Lent};
-ghost use Rattle.stitch.specs.Counted.{countsOf};
 use lowering::fill::fill;
-use lowering::lower::Answer;
+use lowering::lower::count;
 use lowering::lower::lower_marked;
 use lowering::lower::node;
 use lowering::lower::number;
@@ -21,53 +20,6 @@ use text::read::Read;
 use text::read::read_text;
 use text::write::write;
 use text::write::write_refused;
-
-// Whether a lowering is done, and how many gates and constraints it then has.
-pub struct Counts {
-    pub done: bool,
-    pub gates: usize,
-    pub constraints: usize,
-}
-
-fn count(a: Answer) -> Counts
-    ensures { λ r. ⌜ r ≡ countsOf a ⌝ }
-{
-    match a {
-        Answer::Done {
-            gates: n,
-            constraints: k,
-        } => Counts {
-            done: true,
-            gates: n,
-            constraints: k,
-        },
-        Answer::Table(_) => Counts {
-            done: false,
-            gates: 0,
-            constraints: 0,
-        },
-        Answer::GateRoom => Counts {
-            done: false,
-            gates: 0,
-            constraints: 0,
-        },
-        Answer::BitRoom => Counts {
-            done: false,
-            gates: 0,
-            constraints: 0,
-        },
-        Answer::ConstraintRoom => Counts {
-            done: false,
-            gates: 0,
-            constraints: 0,
-        },
-        Answer::ZeroDivisor(_) => Counts {
-            done: false,
-            gates: 0,
-            constraints: 0,
-        },
-    }
-}
 
 // A lowering that is done, with n gates and k constraints.
 fn print_done(

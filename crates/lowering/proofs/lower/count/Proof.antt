@@ -1,8 +1,8 @@
 use mathlib.Core.Path.{ap, sym}
-use Rattle.stitch.specs.Counted.{countsOf}
+use Rattle.lowering.specs.Lower.{countsOf}
 use borrow.Author.Needs.{needs}
-use Rattle.stitch.proofs.print.count.Statement.{statement}
-use Rattle.stitch.proofs.print.count.Tie as tie
+use Rattle.lowering.proofs.lower.count.Statement.{statement}
+use Rattle.lowering.proofs.lower.count.Tie as tie
 
 enum-known-a : tie.Need-enum-known-a
 enum-known-a c = search needs
