@@ -1,5 +1,5 @@
 -- What a caller of the lowering knows by its answer.
-use mathlib.Core.Path.{_≡_, refl, ap, sym, _∙_, subst}
+use mathlib.Core.Path.{_≡_, refl, sym, _∙_, subst}
 use mathlib.Core.List.{List}
 use Prim.Native.Nat.{ℕ, _+_, _≤_}
 use native.Mathlib.Omega.{arith}
@@ -8,7 +8,6 @@ use Rattle.table.specs.Node.{nodes}
 use Rattle.netlist.specs.Record.{gate, put, Room}
 use Rattle.netlist.proofs.RecordLaws.{put-length}
 use Rattle.division.specs.Constraint.{conUsed}
-use Rattle.visits.specs.Flow.{Low}
 use Rattle.visits.specs.Claims.{Start}
 use Rattle.visits.proofs.Later.{Later}
 use Rattle.visits.proofs.Walk.{Fit, fit-later}

@@ -1,8 +1,8 @@
 -- What the proofs of the code cite, path by path.
 use mathlib.Core.Path.{_≡_, refl, ap, sym, _∙_, subst}
-use mathlib.Core.List.{List, _++_}
+use mathlib.Core.List.{List}
 use mathlib.Core.Bool.{true, false}
-use Prim.Native.Nat.{ℕ, _+_, _-_, _*_, _/_, _≤_, _<_}
+use Prim.Native.Nat.{ℕ, _+_, _-_, _*_, _/_, _≤_}
 use native.Mathlib.Omega.{arith}
 use lib.ListN.{length, getD, set, take, drop, replicate, length-replicate, length-set}
 use lib.Seq.{length-take-le, getD-take, ext-getD, take-at}
@@ -25,7 +25,7 @@ use Rattle.text.proofs.Answers.{TableRead, table-read, refused-read, plainOf}
 use Rattle.text.proofs.Sizes.{room}
 use Rattle.lowering.specs.declared.lower.Answer.{Answer}
 use Rattle.lowering.specs.declared.lower.Answer.the-variants.{Done, Table, GateRoom, BitRoom, ConstraintRoom, ZeroDivisor}
-use Rattle.nodes.specs.Source.{Source, source, listed, totalOf}
+use Rattle.nodes.specs.Source.{Source, source, listed}
 use Rattle.lowering.specs.Lower.{Run, run, number, node, countsOf, lowered, lowerAll, marked, Accepted}
 use Rattle.lowering.specs.Promise.{Promise}
 use Rattle.lowering.proofs.LowerFacts.{map-sum}

@@ -14,12 +14,12 @@ pub fn answer(text: &[u8], out: &mut [u8]) -> usize
     ensures { λ r. ⌜ Written (now (out .entry)) (printed (now (text .entry))) (now (out .exit)) r ⌝ }
 {
     let mut addrs = [0u64; 64];
-    let mut nodes = [0u64; 3072];
-    let mut gates = [0u32; 16384];
-    let mut constraints = [0u32; 16384];
+    let mut nodes = [0u64; 3072]; // 512 of six numbers
+    let mut gates = [0u32; 16384]; // 4,096 of four numbers
+    let mut constraints = [0u32; 16384]; // 8,192 of two
     let mut map = [0u32; 16384];
-    let mut marks = [0u8; 513];
-    let mut offsets = [0usize; 514];
+    let mut marks = [0u8; 513]; // at the nodes' numbers, from 0
+    let mut offsets = [0usize; 514]; // and where the last node's bits end
     print_text(
         text,
         &mut addrs,
