@@ -1,5 +1,6 @@
 //! Offers any numbers to the entry points and holds each answer and each lent buffer, end to end and with guards around it, to the model.
 //!   fuzz N [SEED]    N inputs; the same seed gives the same inputs
+//! The library has no coverage counters for a guided fuzzer to follow, so that the inputs are random, and most stand near an accepted table.
 mod model;
 
 use model::Table;
