@@ -4,8 +4,8 @@ mod tables;
 #[cfg(original)]
 use original::tables;
 
-use ramstitcher::{eval_gates, eval_words, lower, Lowered, CONSTRAINT, GATE};
-use tables::{adds, memory, mix, two, Table, ADD, AND, DIVU, EQ, INPUT, ITE, MUL, READ, WRITE};
+use ramstitcher::{eval_gates, eval_words, lower, room, Lowered, CONSTRAINT, GATE};
+use tables::{adds, memory, mix, two, Table, DIVU, MUL};
 
 /// A time is the lowest of the medians of this many passes over all tables, each of this many rounds: other load only ever adds.
 const PASSES: usize = 9;
@@ -66,30 +66,16 @@ struct Ready {
 
 impl Ready {
     fn new(t: &Table) -> Ready {
-        let (n, w) = (t.addresses.len() as u64, t.word);
-        let bits = |width: u64| if width == 0 { n * w } else { width };
-        let ceiling = |&[kind, width, a, ..]: &[u64; 6]| match kind {
-            INPUT => bits(width),
-            AND => width,
-            EQ => 3 * t.nodes[a as usize - 1][1] - 1,
-            ADD => 3 * width,
-            ITE => 3 * bits(width),
-            MUL => 2 * width * (width + 1),
-            DIVU => 2 * width * width + 13 * width + 1 + width * (width - 1) / 2,
-            READ => n * (4 * w - 1),
-            WRITE => n * (5 * w - 1),
-            _ => 0,
-        };
-        let pairs = |&[kind, width, ..]: &[u64; 6]| if kind == DIVU { width * (width - 1) / 2 + 2 * width + 2 } else { 0 };
-        let sum = |each: &dyn Fn(&[u64; 6]) -> u64| t.nodes.iter().map(each).sum::<u64>() as usize;
+        let table = t.flat();
+        let room = room(&table, &t.addresses, t.word).unwrap();
         Ready {
-            table: t.flat(),
+            table,
             addresses: t.addresses.clone(),
-            word: w,
-            gates: vec![0; GATE * (2 + sum(&ceiling))],
-            constraints: vec![0; CONSTRAINT * sum(&pairs)],
-            map: vec![0; sum(&|node| bits(node[1]))],
-            slots: sum(&|node| if node[1] == 0 { n } else { 1 }),
+            word: t.word,
+            gates: vec![0; GATE * room.gates],
+            constraints: vec![0; CONSTRAINT * room.constraints],
+            map: vec![0; room.map],
+            slots: t.nodes.iter().map(|node| if node[1] == 0 { t.addresses.len() } else { 1 }).sum(),
         }
     }
 

@@ -1,4 +1,4 @@
-/* Ramstitcher's three entry points, for C. Link target/staticlib/libffi.a (x86-64 Linux).
+/* Ramstitcher's entry points, for C. Link target/staticlib/libffi.a (x86-64 Linux).
  *
  * Each function returns a number of the refusal sheet, 0 for none, and stores through its last pointers what stands beside it.
  * What the proofs ask of a caller, and cannot test:
@@ -41,6 +41,13 @@ enum ramstitcher_refusal {
     RAMSTITCHER_VALUE_ROOM = 12,
     RAMSTITCHER_INPUT = 13
 };
+
+/* What the lowering of a table asks for: records of gates and of constraints, and places of the map. Gives refusals 1 to 6 with their node as the
+ * lowering does, and then no room. */
+uint64_t ramstitcher_room(const uint64_t *table, size_t table_length,
+                          const uint64_t *addresses, size_t addresses_length,
+                          uint64_t word,
+                          size_t *node, uint64_t *gates, uint64_t *constraints, uint64_t *map);
 
 /* Lowers a table. On success the first gate_count records of gates, the first constraint_count of constraints and the places of all nodes in map
  * are written; both counts are 0 beside a refusal. Refusal 10 leaves the three buffers all zero, every other refusal leaves them as they were.

@@ -26,8 +26,27 @@ pub struct Lowered {
     pub constraints: usize,
 }
 
+/// What the lowering of a table asks for: records of gates and of constraints, and places of the map.
+#[derive(Clone, Copy, Debug, PartialEq, Eq)]
+pub struct Room {
+    pub gates: usize,
+    pub constraints: usize,
+    pub map: usize,
+}
+
 mod raw {
     extern "C" {
+        pub fn ramstitcher_room(
+            table: *const u64,
+            table_length: usize,
+            addresses: *const u64,
+            addresses_length: usize,
+            word: u64,
+            node: *mut usize,
+            gates: *mut u64,
+            constraints: *mut u64,
+            map: *mut u64,
+        ) -> u64;
         pub fn ramstitcher_lower(
             table: *const u64,
             table_length: usize,
@@ -70,6 +89,27 @@ fn answer(number: u64, node: usize) -> Result<(), Refusal> {
     } else {
         Err(Refusal { number, node })
     }
+}
+
+/// The room that the lowering of a table asks for; or its refusal, 1 to 6.
+pub fn room(table: &[u64], addresses: &[u64], word: u64) -> Result<Room, Refusal> {
+    let (mut node, mut gates, mut constraints, mut map) = (0, 0, 0, 0);
+    // SAFETY: each pointer and length is of one slice, and nothing else refers to what is written.
+    let number = unsafe {
+        raw::ramstitcher_room(
+            table.as_ptr(),
+            table.len(),
+            addresses.as_ptr(),
+            addresses.len(),
+            word,
+            &mut node,
+            &mut gates,
+            &mut constraints,
+            &mut map,
+        )
+    };
+    // the library is for 64-bit machines alone
+    answer(number, node).map(|()| Room { gates: gates as usize, constraints: constraints as usize, map: map as usize })
 }
 
 /// Lowers a table into the lent buffers. Refusal 10 leaves them all zero, every other refusal as they were.

@@ -88,6 +88,9 @@ static void divide(void) {
     const uint64_t none[1] = {0};
     uint32_t gates[4 * 112], constraints[32], map[14];
     size_t node, made, held;
+    uint64_t room_gates, room_constraints, room_map;
+    EXPECT(ramstitcher_room(table, COUNT(table), none, 0, 64, &node, &room_gates, &room_constraints, &room_map) == RAMSTITCHER_DONE);
+    EXPECT(node == 0 && room_gates == 112 && room_constraints == 16 && room_map == 14);
     EXPECT(ramstitcher_lower(table, COUNT(table), none, 0, 64, gates, COUNT(gates), constraints, 32, map, 14, &node, &made, &held) == RAMSTITCHER_DONE);
     EXPECT(node == 0 && made <= 112 && held == 16);
     EXPECT(ramstitcher_lower(table, COUNT(table), none, 0, 64, gates, COUNT(gates), constraints, 31, map, 14, &node, &made, &held) == RAMSTITCHER_CONSTRAINT_ROOM);

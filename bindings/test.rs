@@ -1,5 +1,5 @@
 // The Rust wrapper against the library, with a model beyond the program's rooms: 512 nodes, each word 64 wide.
-use ramstitcher::{eval_gates, eval_words, lower, Lowered, Refusal, CONSTRAINT, GATE, UNREACHED};
+use ramstitcher::{eval_gates, eval_words, lower, room, Lowered, Refusal, Room, CONSTRAINT, GATE, UNREACHED};
 
 fn first_table() {
     let table = [[2, 1, 0, 0, 0, 0], [4, 1, 1, 0, 0, 0], [5, 1, 2, 0, 0, 0]].concat();
@@ -11,6 +11,8 @@ fn first_table() {
     assert_eq!(eval_gates(&gates, &mut values), Ok(()));
     assert_eq!(values, [0, 1, 0, 1]);
     assert_eq!(eval_gates(&gates[..15], &mut values), Err(Refusal { number: 11, node: 0 }));
+    assert_eq!(room(&table, &[], 2), Ok(Room { gates: 4, constraints: 0, map: 3 }));
+    assert_eq!(room(&table[..17], &[], 2), Err(Refusal { number: 1, node: 0 }));
     assert_eq!(lower(&table[..17], &[], 2, &mut gates, &mut [], &mut map), Err(Refusal { number: 1, node: 0 }));
     assert_eq!(lower(&table, &[4], 2, &mut gates, &mut [], &mut map), Err(Refusal { number: 2, node: 0 }));
     assert_eq!(lower(&table, &[], 2, &mut gates[..12], &mut [], &mut map), Err(Refusal { number: 7, node: 0 }));
@@ -27,15 +29,7 @@ fn large_model() {
     table.push([8, 1, 510, 1, 0, 0]);
     table.push([5, 1, 511, 0, 0, 0]);
     let flat = table.concat();
-    let ceiling = |n: &[u64; 6]| match n[0] {
-        2 => 64,
-        9 => 192,
-        13 => 2 * 64 * 65,
-        8 => 191,
-        _ => 0,
-    };
-    let room: usize = 2 + table.iter().map(ceiling).sum::<usize>();
-    let places: usize = table.iter().map(|n| n[1] as usize).sum();
+    let Room { gates: room, constraints: 0, map: places } = room(&flat, &[], 64).unwrap() else { panic!("constraints") };
     let (mut gates, mut map) = (vec![0u32; GATE * room], vec![0u32; places + 1]);
     map[places] = 17;
     let made = lower(&flat, &[], 64, &mut gates, &mut [0; CONSTRAINT], &mut map).unwrap();

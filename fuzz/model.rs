@@ -1,4 +1,6 @@
-//! The three entry points, written in Rust from the definition of the build alone: plain, slow, and over lists that grow.
+//! The entry points, written in Rust from the definition of the build: plain, slow, and over lists that grow. Where the definition leaves an order
+//! open (the sum as an adder's left operand, a read's Ands before its Ors and the result as the Or's left operand), the order is the code's, so that there
+//! the comparison shows no more than that both agree.
 //! Each gives the whole answer: refusal, node, counts, and all that a lent buffer then holds.
 
 pub const UNREACHED: u32 = u32::MAX;
@@ -86,7 +88,7 @@ impl Table<'_> {
     }
 
     /// Refusals 1 to 6.
-    fn fault(&self) -> Answer {
+    pub fn fault(&self) -> Answer {
         let n = self.addresses.len();
         if self.table.len() % 6 != 0 || self.nodes() > 512 || n > 64 || !(1..=64).contains(&self.word) {
             return (1, 0);

@@ -1,13 +1,59 @@
-// The three entry points for C and Rust. Numbers and slices alone cross: a slice is a pointer and a length, and what stands beside a refusal is
+// The entry points for C and Rust. Numbers and slices alone cross: a slice is a pointer and a length, and what stands beside a refusal is
 // stored through a reference. Nothing is asked of the caller beyond what bindings/ramstitcher.h says of pointers.
 ghost use mathlib.Core.Path.{_≡_};
+ghost use Rattle.table.specs.Sheet as sheet;
+ghost use Rattle.table.specs.Sheet.{tableFault};
 ghost use Rattle.nodes.specs.Source.{source};
 ghost use Rattle.lowering.specs.Promise.{Promise};
 ghost use Rattle.lowering.specs.Lower as low;
 ghost use Rattle.values.specs.Eval as words;
 ghost use Rattle.netlist.specs.Check as check;
 ghost use Rattle.netlist.specs.Eval as list;
-ghost use Rattle.ffi.specs.Count.{gatesMade, constraintsHeld, lowerAnswer};
+ghost use Rattle.ffi.specs.Count.{gatesMade, constraintsHeld, lowerAnswer, roomFor};
+use table::Fault;
+use table::Sums;
+
+// The sums of a table whose fault is known.
+fn room_of(table: &[u64], addrs: &[u64], word: u64, f: Fault) -> Sums
+    requires { ⌜ f ≡ tableFault (now table) (now addrs) word ⌝ }
+    ensures { λ r. ⌜ r ≡ roomFor (now (table .entry)) (now (addrs .entry)) word ⌝ }
+{
+    if table::sheet::clear(f) {
+        return table::ceiling::sums(table, addrs, word);
+    }
+    Sums {
+        gates: 0,
+        map: 0,
+        constraints: 0,
+    }
+}
+
+// What the lowering of a table asks for: records of gates, places of the map, constraints. Refusals 1 to 6 are given here as there.
+#[no_mangle]
+pub extern "C" fn ramstitcher_room(
+    table: &[u64],
+    addrs: &[u64],
+    word: u64,
+    node: &mut usize,
+    gates: &mut u64,
+    constraints: &mut u64,
+    map: &mut u64,
+) -> u64
+    ensures { λ r. ⌜ r ≡ sheet.number (tableFault (now (table .entry)) (now (addrs .entry)) word) ⌝ }
+    ensures { λ _. ⌜ now (node .exit) ≡ sheet.node (tableFault (now (table .entry)) (now (addrs .entry)) word) ⌝ }
+    ensures { λ _. ⌜ now (gates .exit) ≡ roomFor (now (table .entry)) (now (addrs .entry)) word .gates ⌝ }
+    ensures { λ _. ⌜ now (constraints .exit) ≡ roomFor (now (table .entry)) (now (addrs .entry)) word .constraints ⌝ }
+    ensures { λ _. ⌜ now (map .exit) ≡ roomFor (now (table .entry)) (now (addrs .entry)) word .map ⌝ }
+{
+    let f = table::sheet::check_table(table, addrs, word);
+    let s = room_of(table, addrs, word, f);
+    *gates = s.gates;
+    *constraints = s.constraints;
+    *map = s.map;
+    *node = table::sheet::node(f);
+    table::sheet::number(f)
+}
+
 // The lowering. Returns the number on the refusal sheet, 0 for none.
 #[no_mangle]
 pub extern "C" fn ramstitcher_lower(

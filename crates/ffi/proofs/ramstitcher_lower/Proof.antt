@@ -9,35 +9,35 @@ use Rattle.lowering.proofs.lower.lower.Reads as lower-reads
 use Rattle.lowering.proofs.lower.node.Reads as node-reads
 use Rattle.lowering.proofs.lower.number.Reads as number-reads
 
--- src/lib.rt:30:9
+-- src/lib.rt:76:9
 lower-requires : tie.Need-lower-requires
 lower-requires c κs = search needs
 
--- src/lib.rt:31:13
+-- src/lib.rt:77:13
 node-requires : tie.Need-node-requires
 node-requires c κs = search needs
 
--- src/lib.rt:32:9
+-- src/lib.rt:78:9
 count-requires : tie.Need-count-requires
 count-requires c κs = search needs
 
--- src/lib.rt:35:5
+-- src/lib.rt:81:5
 number-requires : tie.Need-number-requires
 number-requires c κs = search needs
 
--- src/lib.rt:12:1
+-- src/lib.rt:58:1
 same-length : tie.Need-same-length
 same-length c = search needs
 
--- src/lib.rt:12:1
+-- src/lib.rt:58:1
 same-length-2 : tie.Need-same-length-2
 same-length-2 c = search needs
 
--- src/lib.rt:12:1
+-- src/lib.rt:58:1
 same-length-3 : tie.Need-same-length-3
 same-length-3 c = search needs
 
--- src/lib.rt:12:1
+-- src/lib.rt:58:1
 returns : tie.Need-returns
 returns c = lower-cross (c .before .before .before .before .before .before .before .before .before .before .before .before .before .before .before .before .before .before .args .table .now) (c .before .before .before .before .before .before .before .before .before .before .before .before .before .before .before .before .before .before .args .addrs .now) (c .before .before .before .before .before .before .before .before .before .before .before .before .before .before .before .before .before .before .args .word) (c .before .before .before .before .before .before .before .before .before .before .before .before .before .before .before .before .before .before .args .gates .now) (c .before .before .before .before .before .before .before .before .before .before .before .before .before .before .before .before .before .before .args .constraints .now) (c .before .before .before .before .before .before .before .before .before .before .before .before .before .before .before .before .before .before .args .map .now) _ _ _ _ _ _ _ (c .before .before .before .before .before .before .before .before .before .lower .ensures) (c .number .ensures) (c .before .before .node .ensures) (c .before .count .ensures)
 
