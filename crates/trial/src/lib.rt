@@ -66,7 +66,8 @@ pub fn input_word(gates: &mut [u32], at: At, node: u32, word: &mut [u32]) -> At
     next
 }
 
-fn give_bit(values: &mut [u8], bit: u32, value: u8)
+// A value as that of a bit; where there is none, nothing.
+pub fn give_bit(values: &mut [u8], bit: u32, value: u8)
     ensures { λ _. ⌜ now (values .exit) ≡ set (now (values .entry)) bit value ⌝ }
 {
     let k = bit as usize;
@@ -95,7 +96,7 @@ fn wide(x: u8) -> u64
 }
 
 // The value of a bit; where there is none, so much that no word of fewer than 32 bits says it.
-fn value_of(values: &[u8], bit: u32) -> u64
+pub fn value_of(values: &[u8], bit: u32) -> u64
     ensures { λ r. ⌜ r ≡ valueOf (now (values .entry)) bit ⌝ }
 {
     let k = bit as usize;
