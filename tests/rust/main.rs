@@ -1,11 +1,12 @@
 //! The original as judge.
 //!
-//!     compare COUNT SEED         compares so many random tables of the shared domain
+//!     compare COUNT SEED         tries the named differences, and compares so many random tables of the shared domain
 //!     compare list COUNT SEED    writes so many of the original's answers, as crates/rust_run reads them
 mod compare;
 mod generate;
 mod list;
 mod model;
+mod named;
 mod ours;
 mod shrink;
 mod theirs;
@@ -68,6 +69,7 @@ impl Shown {
 fn run(count: usize, seed: u64) -> bool {
     let mut r = Random(seed);
     let mut ours = Ours::new();
+    let named = named::run(&mut ours);
     let mut n = Counts::default();
     let mut shown: BTreeMap<(bool, usize), Shown> = BTreeMap::new();
     while n.compared < count {
@@ -111,7 +113,7 @@ fn run(count: usize, seed: u64) -> bool {
         let word = if *wrong { "WRONG" } else { "allowed" };
         println!("{} {:?}: {} tables, the smallest: {}", word, KINDS[*at], s.tables, s.smallest.as_ref().map_or(String::new(), Table::line));
     }
-    n.wrong == 0
+    named && n.wrong == 0
 }
 
 fn number(word: Option<&String>) -> u64 {

@@ -3,6 +3,8 @@ use crate::model::*;
 use ramstitcher::{eval_gates, eval_words, lower, Refusal, CONSTRAINT, GATE, UNREACHED};
 
 const INPUT_BIT: u32 = 2;
+const QUOTIENT: u32 = 12;
+const REMAINDER: u32 = 13;
 
 /// Buffers that are lent again and again, larger than any drawn table needs.
 pub struct Ours {
@@ -17,12 +19,17 @@ impl Ours {
         Ours { gates: vec![0; GATE * 600_000], constraints: vec![0; CONSTRAINT * 150_000], map: vec![0; 40_000], bytes: Vec::new() }
     }
 
-    /// Each given gate gets its bit, the list is evaluated, and the bits of the map are read off as words.
-    fn values(&mut self, made: usize, given: &Given) -> Result<(), Refusal> {
+    /// Each free gate gets its bit, and the list is evaluated. A division's free gates take theirs from one quotient and one remainder.
+    fn values(&mut self, made: usize, given: &Given, quotient: u64, remainder: u64) -> Result<(), Refusal> {
         self.bytes.clear();
         for gate in self.gates[..GATE * made].chunks(GATE) {
-            let bit = if gate[0] == INPUT_BIT { given[gate[1] as usize - 1] >> gate[2] & 1 } else { 0 };
-            self.bytes.push(bit as u8);
+            let word = match gate[0] {
+                INPUT_BIT => given[gate[1] as usize - 1],
+                QUOTIENT => quotient,
+                REMAINDER => remainder,
+                _ => 0,
+            };
+            self.bytes.push(if word == 0 { 0 } else { (word >> gate[2] & 1) as u8 });
         }
         eval_gates(&self.gates[..GATE * made], &mut self.bytes)
     }
@@ -44,7 +51,7 @@ impl Ours {
             at += count;
         }
         for g in given {
-            self.values(made.gates, g)?;
+            self.values(made.gates, g, 0, 0)?;
             for (k, bits) in nodes.iter_mut().enumerate() {
                 if let Some(bits) = bits {
                     let map = &self.map[places[k]..places[k] + bits.count.min(64)];
@@ -54,6 +61,14 @@ impl Ours {
             }
         }
         Ok(Answer { nodes, constraints: made.constraints })
+    }
+
+    /// Whether every constraint of a table with one division holds at a quotient and a remainder.
+    pub fn admits(&mut self, table: &Table, given: &Given, quotient: u64, remainder: u64) -> Result<bool, Refusal> {
+        let made = lower(&table.flat(), &table.addresses, table.word, &mut self.gates, &mut self.constraints, &mut self.map)?;
+        self.values(made.gates, given, quotient, remainder)?;
+        let held = &self.constraints[..CONSTRAINT * made.constraints];
+        Ok(held.chunks(CONSTRAINT).all(|c| self.bytes[c[0] as usize] as u32 == c[1]))
     }
 
     /// The word evaluator's value of each node: one number a word; a memory's words are left out.

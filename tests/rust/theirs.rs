@@ -95,13 +95,21 @@ fn model(table: &Table) -> Model {
     }
 }
 
-/// Values of gates, a bit for each of up to 64 given inputs.
+/// Values of gates, a bit for each of up to 64 given inputs. A division's free gates take theirs from one quotient and one remainder.
 struct Values {
     seen: HashMap<*const Gate, u64>,
+    quotient: u64,
+    remainder: u64,
+}
+
+/// The same bit under each input.
+fn all_lanes(word: u64, bit: u32) -> u64 {
+    0u64.wrapping_sub(word >> bit & 1)
 }
 
 impl Values {
-    fn new(made: &GateModel, places: &HashMap<*const RefCell<Original>, usize>, given: &[Given]) -> Values {
+    fn new(made: &GateModel, lines: &[NodeRef], given: &[Given]) -> Values {
+        let places: HashMap<_, usize> = lines.iter().enumerate().map(|(k, line)| (std::rc::Rc::as_ptr(line), k)).collect();
         let mut seen = HashMap::new();
         for (node, gates) in &made.input_gates {
             let k = places[&std::rc::Rc::as_ptr(node)];
@@ -110,7 +118,7 @@ impl Values {
                 seen.insert(RefCell::as_ptr(gate) as *const Gate, value);
             }
         }
-        Values { seen }
+        Values { seen, quotient: 0, remainder: 0 }
     }
 
     fn of(&mut self, gate: &GateRef) -> u64 {
@@ -134,7 +142,8 @@ impl Values {
             }
             Gate::ResultFullAdder { input1, input2, input3 } => self.of(input1) ^ self.of(input2) ^ self.of(input3),
             Gate::InputBit { name } => unreachable!("input bit {} is not listed", name),
-            Gate::Quotient { .. } | Gate::Remainder { .. } => unreachable!("a division of an unknown word"),
+            Gate::Quotient { index, .. } => all_lanes(self.quotient, *index),
+            Gate::Remainder { index, .. } => all_lanes(self.remainder, *index),
         };
         self.seen.insert(place, value);
         value
@@ -156,17 +165,24 @@ fn divides(table: &Table, lines: &[NodeRef], made: &GateModel) -> bool {
         .any(|(k, n)| (n.kind == DIVU || n.kind == REM) && bits_of(k).is_some() && !(wholly(n.operands[0]) && wholly(n.operands[1])))
 }
 
-pub fn lower(table: &Table, given: &[Given]) -> Theirs {
+/// The original, run; or what it said when it stopped.
+fn run(table: &Table) -> Result<(Model, GateModel), String> {
     let model = model(table);
-    let made = match panic::catch_unwind(panic::AssertUnwindSafe(|| bitblast_model(&model, true, table.word))) {
-        Ok(made) => made,
-        Err(_) => return Theirs::Stopped(last_stop()),
+    match panic::catch_unwind(panic::AssertUnwindSafe(|| bitblast_model(&model, true, table.word))) {
+        Ok(made) => Ok((model, made)),
+        Err(_) => Err(last_stop()),
+    }
+}
+
+pub fn lower(table: &Table, given: &[Given]) -> Theirs {
+    let (model, made) = match run(table) {
+        Ok(both) => both,
+        Err(why) => return Theirs::Stopped(why),
     };
     if divides(table, &model.lines, &made) {
         return Theirs::Divides;
     }
-    let places = model.lines.iter().enumerate().map(|(k, line)| (std::rc::Rc::as_ptr(line), k)).collect();
-    let mut values = Values::new(&made, &places, given);
+    let mut values = Values::new(&made, &model.lines, given);
     let nodes = model.lines.iter().map(|line| {
         let bits = made.mapping.get(&HashableNodeRef::from(line.clone()))?;
         let mut words = vec![0; given.len()];
@@ -177,4 +193,12 @@ pub fn lower(table: &Table, given: &[Given]) -> Theirs {
         Some(Bits { count: bits.len(), known: known(bits), values: words })
     });
     Theirs::Lowered(Answer { nodes: nodes.collect(), constraints: made.constraints.len() })
+}
+
+/// Whether every constraint of a table with one division holds at a quotient and a remainder.
+pub fn admits(table: &Table, given: &Given, quotient: u64, remainder: u64) -> bool {
+    let Ok((model, made)) = run(table) else { return false };
+    let mut values = Values::new(&made, &model.lines, std::slice::from_ref(given));
+    (values.quotient, values.remainder) = (quotient, remainder);
+    made.constraints.iter().all(|(gate, wanted)| (values.of(&gate.value) & 1 == 1) == *wanted)
 }

@@ -1,0 +1,129 @@
+//! The differences that docs/DIFFERENCES.md names, each at its smallest table: what the original does there, and what the port does.
+use crate::compare::{compare, Difference, Outcome};
+use crate::generate::{self, Random};
+use crate::model::*;
+use crate::ours::Ours;
+use crate::theirs::{self, Theirs};
+
+fn table(nodes: &[(u64, u64, [usize; 3], u64)]) -> Table {
+    let nodes = nodes.iter().map(|(kind, width, operands, imm)| Node::new(*kind, *width, *operands, *imm)).collect();
+    Table { word: 1, addresses: Vec::new(), nodes }
+}
+
+fn zeros(table: &Table) -> Given {
+    vec![0; table.nodes.len()]
+}
+
+fn stops(table: &Table, words: &str) -> bool {
+    matches!(theirs::lower(table, &[zeros(table)]), Theirs::Stopped(why) if why.contains(words))
+}
+
+fn lowered(table: &Table, ours: &mut Ours) -> bool {
+    ours.lower(table, &[zeros(table)]).is_ok()
+}
+
+fn refused(table: &Table, number: u64, node: usize, ours: &mut Ours) -> bool {
+    ours.lower(table, &[]).is_err_and(|r| r.number == number && r.node == node)
+}
+
+/// In the shared domain, with this difference at this node, so many bits that are known here only, and no other difference.
+fn differs(table: &Table, kind: Difference, node: usize, bits: u64, ours: &mut Ours) -> bool {
+    let given = generate::given(&mut Random(1), table, 64);
+    match compare(table, &given, ours) {
+        Outcome::Compared(c) => c.found == [(kind, node)] && c.known_here - c.known_in_both == bits && c.wrong().is_empty(),
+        _ => false,
+    }
+}
+
+/// Over a memory of one word, or of none.
+fn memory(ours: &mut Ours) -> bool {
+    let mut t = table(&[(INPUT, 0, [0; 3], 0), (CONST, 1, [0; 3], 0), (READ, 1, [1, 2, 0], 0), (BAD, 1, [3, 0, 0], 0)]);
+    let none = stops(&t, "unknown bitsize") && lowered(&t, ours);
+    t.addresses = vec![0];
+    none && stops(&t, "unknown bitsize") && lowered(&t, ours)
+}
+
+fn narrow_sub(ours: &mut Ours) -> bool {
+    let t = table(&[(INPUT, 1, [0; 3], 0), (SUB, 1, [1, 1, 0], 0), (BAD, 1, [2, 0, 0], 0)]);
+    stops(&t, "bitvector_1.len() < inverted_bits.len()") && lowered(&t, ours)
+}
+
+/// The bad node shares the ult's bit.
+fn known_by_ult(ours: &mut Ours) -> bool {
+    let t = table(&[(INPUT, 1, [0; 3], 0), (CONST, 1, [0; 3], 1), (ULT, 1, [2, 1, 0], 0), (BAD, 1, [3, 0, 0], 0)]);
+    differs(&t, Difference::MoreOfUlt, 3, 2, ours)
+}
+
+fn known_by_sub(ours: &mut Ours) -> bool {
+    let t = table(&[
+        (INPUT, 8, [0; 3], 0),
+        (CONST, 8, [0; 3], 1),
+        (AND, 8, [1, 2, 0], 0),
+        (SUB, 8, [2, 3, 0], 0),
+        (EQ, 1, [4, 4, 0], 0),
+        (BAD, 1, [5, 0, 0], 0),
+    ]);
+    differs(&t, Difference::MoreOfSub, 4, 7, ours)
+}
+
+fn reached(ours: &mut Ours) -> bool {
+    let t = table(&[
+        (INPUT, 1, [0; 3], 0),
+        (CONST, 1, [0; 3], 1),
+        (ULT, 1, [2, 1, 0], 0),
+        (INPUT, 1, [0; 3], 0),
+        (ITE, 1, [3, 4, 1], 0),
+        (BAD, 1, [5, 0, 0], 0),
+    ]);
+    let given = generate::given(&mut Random(1), &t, 64);
+    match compare(&t, &given, ours) {
+        Outcome::Compared(c) => c.found.contains(&(Difference::Fewer, 4)) && c.wrong().is_empty(),
+        _ => false,
+    }
+}
+
+fn zero_by_zero(ours: &mut Ours) -> bool {
+    let t = table(&[(CONST, 1, [0; 3], 0), (DIVU, 1, [1, 1, 0], 0), (BAD, 1, [2, 0, 0], 0)]);
+    stops(&t, "divide by zero") && refused(&t, 10, 2, ours)
+}
+
+/// With an unknown dividend the original goes on; no quotient and remainder meet its constraints.
+fn unknown_by_zero(ours: &mut Ours) -> bool {
+    let t = table(&[(INPUT, 1, [0; 3], 0), (CONST, 1, [0; 3], 0), (DIVU, 1, [1, 2, 0], 0), (BAD, 1, [3, 0, 0], 0)]);
+    let met = (0..8u64).any(|i| {
+        let mut given = zeros(&t);
+        given[0] = i & 1;
+        theirs::admits(&t, &given, i >> 1 & 1, i >> 2)
+    });
+    matches!(theirs::lower(&t, &[zeros(&t)]), Theirs::Divides) && !met && refused(&t, 10, 3, ours)
+}
+
+/// 1 by 2 at width 8: 128 times 2 and 1 more is 257, of which the original's rows keep 1.
+fn quotient_dropped(ours: &mut Ours) -> bool {
+    let t = table(&[(INPUT, 8, [0; 3], 0), (INPUT, 8, [0; 3], 0), (DIVU, 8, [1, 2, 0], 0), (EQ, 1, [3, 1, 0], 0), (BAD, 1, [4, 0, 0], 0)]);
+    let mut given = zeros(&t);
+    (given[0], given[1]) = (1, 2);
+    let there = (theirs::admits(&t, &given, 0, 1), theirs::admits(&t, &given, 128, 1));
+    let here = (ours.admits(&t, &given, 0, 1), ours.admits(&t, &given, 128, 1));
+    there == (true, true) && here == (Ok(true), Ok(false))
+}
+
+type Check = fn(&mut Ours) -> bool;
+
+/// Says how many are as they are said to be, and which are not.
+pub fn run(ours: &mut Ours) -> bool {
+    let all: [(&str, Check); 8] = [
+        ("a memory", memory),
+        ("a sub at width 1", narrow_sub),
+        ("known bits of ult", known_by_ult),
+        ("known bits of sub", known_by_sub),
+        ("reached nodes", reached),
+        ("zero by a known zero", zero_by_zero),
+        ("an unknown word by a known zero", unknown_by_zero),
+        ("quotient bits dropped", quotient_dropped),
+    ];
+    let wrong: Vec<&str> = all.iter().filter(|(_, check)| !check(ours)).map(|(name, _)| *name).collect();
+    println!("{} named differences, {} are not as docs/DIFFERENCES.md says", all.len(), wrong.len());
+    wrong.iter().for_each(|name| println!("NOT SO: {}", name));
+    wrong.is_empty()
+}
