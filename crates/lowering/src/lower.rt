@@ -204,7 +204,7 @@ pub fn lower_marked(
     )
 }
 
-// The lowering of any table into the lent buffers: gates of four numbers, constraints of two, and the bit map.
+// The lowering of any table into the lent buffers: gates, constraints, and the bit map.
 pub fn lower(
     table: &[u64],
     addrs: &[u64],
