@@ -1,4 +1,6 @@
 // A table is lowered into buffers that were filled beforehand, and the answer and every place of them is held against what is wanted.
+ghost use mathlib.Core.Path.{_≡_};
+ghost use Rattle.lower_run.specs.Outcome.{outcome, sameOutcome};
 use lowering::lower::Answer;
 use lowering::lower::lower;
 use lowering::lower::node;
@@ -12,7 +14,9 @@ pub struct Outcome {
     pub constraints: u64,
 }
 
-pub fn done(gates: u64, constraints: u64) -> Outcome {
+pub fn done(gates: u64, constraints: u64) -> Outcome
+    ensures { λ r. ⌜ r ≡ outcome 0 0 gates constraints ⌝ }
+{
     Outcome {
         refusal: 0,
         node: 0,
@@ -21,7 +25,9 @@ pub fn done(gates: u64, constraints: u64) -> Outcome {
     }
 }
 
-pub fn refused(refusal: u64, node: u64) -> Outcome {
+pub fn refused(refusal: u64, node: u64) -> Outcome
+    ensures { λ r. ⌜ r ≡ outcome refusal node 0 0 ⌝ }
+{
     Outcome {
         refusal,
         node,
@@ -37,7 +43,9 @@ fn in_numbers(answer: Answer) -> Outcome {
     }
 }
 
-pub fn same_outcome(found: Outcome, wanted: Outcome) -> bool {
+pub fn same_outcome(found: Outcome, wanted: Outcome) -> bool
+    ensures { λ r. ⌜ r ≡ sameOutcome found wanted ⌝ }
+{
     (found.refusal == wanted.refusal)
         & (found.node == wanted.node)
         & (found.gates == wanted.gates)
