@@ -30,7 +30,7 @@ use Rattle.division.specs.Pair.{Pair, pairOf, pairStep, pairWords}
 use Rattle.division.specs.Known.{answerOf, knownWord}
 use Rattle.values.specs.Value.{divWord, remWord}
 use Rattle.division.specs.Divide.{divWords, freeWord, divideWords}
-use Rattle.division.proofs.ConstraintLaws.{each-more, more-one}
+use Rattle.division.proofs.ConstraintLaws.{each-more}
 use Rattle.division.proofs.RowLaws.{rows-law}
 use Rattle.division.proofs.CheckLaws.{cost-all, count-all, xnors-cost, sum-upto, sum-more}
 use Rattle.division.proofs.PairLaws.{pair-law}
@@ -46,9 +46,6 @@ con-path bits v j c d e = e
 
 pub each-count : (bits : List ℕ) (v k : ℕ) (s : Cons) (l : List ℕ) (m : ℕ) → consOf l m ≡ constrainEach bits v k s → (m ≡ s .m + k) × (length l ≡ length (s .list))
 each-count bits v k s l m e = (ap (λ (x : Cons). x .m) e ∙ each-more bits v s k .count, ap (λ (x : Cons). length (x .list)) e ∙ each-more bits v s k .long)
-
-pub one-count : (g v : ℕ) (s : Cons) (l : List ℕ) (m : ℕ) → consOf l m ≡ constrain s g v → (m ≡ s .m + 1) × (length l ≡ length (s .list))
-one-count g v s l m e = (ap (λ (x : Cons). x .m) e ∙ more-one s g v .count, ap (λ (x : Cons). length (x .list)) e ∙ more-one s g v .long)
 
 -- numbers
 module _ (w n d r : ℕ) where

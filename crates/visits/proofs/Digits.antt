@@ -1,7 +1,6 @@
 -- With digits by division and remainder a division means what it must.
 use mathlib.Core.Path.{_≡_, sym, _∙_}
-use mathlib.Core.Bool.{Bool, true, false}
-use Prim.Native.Nat.{ℕ, _+_, _*_, _^_, _/_, _%_, _≤_, _<_}
+use Prim.Native.Nat.{ℕ, _+_, _*_, _^_, _/_, _%_, _<_}
 use native.Mathlib.Omega.{arith}
 use native.Mathlib.Nat.{div-add-mod', mod-lt, div-le-self}
 use lib.Dec.{eqb}
@@ -9,7 +8,7 @@ use borrow.Author.Tests.{eqb-true, eqb-false}
 use Rattle.digits.specs.Digits.{digit, number}
 use Rattle.digits.proofs.Numbers.{number-same, number-digits}
 use Rattle.visits.specs.Claims.{Meaning}
-use Rattle.visits.specs.Divide.{Divided, Division}
+use Rattle.visits.specs.Divide.{Division}
 use Rattle.visits.proofs.Marks.{positive}
 
 -- where the digits of the quotient and the remainder are a meaning's, it is the division of a by d

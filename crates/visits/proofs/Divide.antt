@@ -1,17 +1,13 @@
 -- The law of values of a division with unknown operands.
-use mathlib.Core.Path.{_≡_, refl, sym, ap, _∙_, subst}
+use mathlib.Core.Path.{_≡_, refl, sym, ap, _∙_}
 use mathlib.Core.Bool.{Bool, true, false}
 use mathlib.Core.Logic.{_⊎_, inl, inr}
-use Prim.Native.Nat.{ℕ, zero, suc, _+_, _*_, _^_, _/_, _≤_, _<_}
+use Prim.Native.Nat.{ℕ, zero, _+_, _*_, _/_, _≤_, _<_}
 use native.Mathlib.Omega.{arith}
-use native.Mathlib.Decide.{decLt}
-use native.Mathlib.Nat.{pow-suc, mul-add-div-right, div-eq-of-lt}
-use lib.Dec.{eqb}
-use borrow.Author.Tests.{eq-eqb}
-use Rattle.netlist.specs.Net.{Net, Assign}
-use Rattle.netlist.specs.declared.record.Gate.{Gate}
-use Rattle.netlist.specs.Record.{gate, gateAt, Room}
-use Rattle.loops.specs.Loop.{pick, bit}
+use native.Mathlib.Nat.{mul-add-div-right, div-eq-of-lt}
+use Rattle.netlist.specs.Net.{Assign}
+use Rattle.netlist.specs.Record.{gate, gateAt}
+use Rattle.loops.specs.Loop.{pick}
 use Rattle.netlist.specs.Kind.{free}
 use Rattle.visits.specs.Flow.{Core, Recipe}
 use Rattle.visits.specs.Claims.{Meaning, Right, freeValue, Frees, Considered, Met, Operands, Fine, StepRight}

@@ -1,18 +1,17 @@
 -- The lowering stops only at a reached division whose divisor is known to be zero.
-use mathlib.Core.Path.{_≡_, refl, sym, ap, _∙_, subst}
-use mathlib.Core.List.{List}
-use mathlib.Core.Bool.{Bool, true, false}
-use Prim.Native.Nat.{ℕ, zero, suc, _+_, _*_, _≤_, _<_}
+use mathlib.Core.Path.{_≡_, sym, _∙_, subst}
+use mathlib.Core.Bool.{true}
+use Prim.Native.Nat.{ℕ, zero, suc, _<_}
 use native.Mathlib.Omega.{arith}
 use native.Mathlib.Decide.{ℕ-discrete}
 use lib.Dec.{eqb}
-use lib.ListN.{length, getD, length-set}
+use lib.ListN.{getD, length-set}
 use Rattle.loops.specs.Loop.{pick, iter}
 use Rattle.loops.proofs.Loop.{iter-inv}
 use Rattle.visits.specs.Flow.{Core, Low, Recipe, owned, enter, mark, visitTo, rootStep, lowerTo}
-use Rattle.visits.specs.Claims.{Same, Seen, Is, Shape, Step, OwnLaw, Start, Halted}
+use Rattle.visits.specs.Claims.{Seen, Is, Shape, Step, OwnLaw, Start, Halted}
 use Rattle.visits.proofs.Marks.{pick-eq, pick-by, positive}
-use Rattle.visits.proofs.Later.{Later, Sound, grows, sound-later, frame-same, Keeps, Steps, steps, visit-later}
+use Rattle.visits.proofs.Later.{Sound, grows, sound-later, frame-same, Keeps, Steps, steps, visit-later}
 use Rattle.visits.proofs.Walk.{mark-seen}
 use Rattle.visits.proofs.Roots.{start-sound}
 

@@ -1,7 +1,5 @@
 -- What a visit keeps, room or not: older gates, constraints, bits and marks; and that each node seen pays for its own gates.
 use mathlib.Core.Path.{_≡_, refl, sym, ap, _∙_, subst}
-use mathlib.Core.List.{List, [], _∷_}
-use mathlib.Core.Bool.{Bool, true, false}
 use mathlib.Core.Logic.{_⊎_, inl, inr}
 use Prim.Native.Nat.{ℕ, zero, suc, _+_, _*_, _≤_, _<_}
 use native.Mathlib.Omega.{arith}
@@ -9,11 +7,8 @@ use native.Mathlib.Decide.{decLt, ℕ-discrete}
 use lib.Dec.{eqb}
 use lib.ListN.{length, getD, set, length-set}
 use lib.Seq.{getD-set-same, getD-set-other}
-use Rattle.netlist.specs.Net.{Net}
-use Rattle.netlist.specs.declared.record.Gate.{Gate}
 use Rattle.netlist.specs.Record.{gateAt, used}
 use Rattle.loops.specs.Loop.{pick}
-use Rattle.gates.specs.Law.{Grows}
 use Rattle.visits.specs.Flow.{Core, Low, Recipe, owned, enter, mark, visitTo}
 use Rattle.visits.specs.Claims.{Same, Seen, Is, Shape, Frame, OwnLaw, left, bitAt}
 use Rattle.visits.proofs.Marks.{pick-eq, positive, left-marked}

@@ -1,16 +1,11 @@
--- What the code's proof cites: a visit path by path, and that it keeps the room.
-use mathlib.Core.Path.{_≡_, refl, sym, ap, _∙_, subst}
-use mathlib.Core.List.{List}
-use Prim.Native.Nat.{ℕ, zero, suc, _+_, _*_, _≤_, _<_}
+-- What the code's proof cites: a visit path by path.
+use mathlib.Core.Path.{_≡_, refl, sym, ap, _∙_}
+use Prim.Native.Nat.{ℕ, zero, suc, _≤_, _<_}
 use native.Mathlib.Omega.{arith}
 use borrow.Author.Tests.{eq-eqb, ne-eqb}
-use lib.Dec.{eqb}
 use lib.ListN.{getD, set}
 use Rattle.loops.specs.Loop.{pick}
 use Rattle.visits.specs.Flow.{Core, Low, Recipe, owned, enter, mark, visitTo}
-use Rattle.visits.specs.Claims.{Shape, OwnLaw}
-use Rattle.visits.proofs.Later.{Later, Sound, sound-later, visit-later}
-use Rattle.visits.proofs.Walk.{Fit, fit-later}
 
 module _ (R : Recipe) (k : ℕ) where
   pub visit-stopped : (f : ℕ) (s : Low) → (s .core .stop ≡ 0 → ⊥) → s ≡ visitTo f R k s
@@ -45,9 +40,3 @@ module _ (R : Recipe) (k : ℕ) where
       let S2 : Low = go (R .second (S1 .core .map) k) S1 in
       let p3 : s3 ≡ go (R .third (S2 .core .map) k) S2 = e3 ∙ ap (λ (x : ℕ). go x s2) ec ∙ ap (λ (x : Low). go (R .third (x .core .map) k) x) p2 in
       ap {B = Low} (λ (x : Core). record { core = x; seen = s3 .seen }) er ∙ ap {B = Low} (λ (x : Low). record { core = R .own k (x .core); seen = x .seen }) p3
-
--- after a visit there is as much room as before
-pub fit-visit : {R : Recipe} (sh : Shape R) (law : OwnLaw R) {e f k : ℕ} {s r : Low} → Sound R s → Fit R e f s → k < R .size → ((g : ℕ) → k < g → r ≡ visitTo g R k s) → Sound R r × Fit R e f r
-fit-visit {R} sh law {e} {f} {k} {s} {r} d h lt eq =
-    let l : Later R k 0 0 s r = subst (λ (x : Low). Later R k 0 0 s x) (sym (eq (suc k) (omega arith))) (visit-later sh law (suc k) k s d lt) in
-    (sound-later d l, fit-later h l)

@@ -1,18 +1,15 @@
 -- The law of values of a step that records no constraint and makes no free gate but InputBits: all kinds but the divisions, and a division of
 -- known words.
-use mathlib.Core.Path.{_≡_, refl, sym, ap, _∙_, subst}
-use mathlib.Core.Bool.{Bool, true, false}
-use Prim.Native.Nat.{ℕ, _+_, _*_, _≤_, _<_}
+use mathlib.Core.Path.{_≡_, sym, _∙_}
+use Prim.Native.Nat.{ℕ}
 use native.Mathlib.Omega.{arith}
-use lib.Dec.{eqb}
 use borrow.Author.Tests.{eq-eqb}
-use Rattle.netlist.specs.Net.{Net, Assign, Obeys}
 use Rattle.netlist.specs.declared.record.Gate.{Gate}
-use Rattle.netlist.specs.Record.{gateAt, Room}
+use Rattle.netlist.specs.Record.{gateAt}
 use Rattle.loops.specs.Loop.{pick}
 use Rattle.netlist.specs.Kind.{free}
 use Rattle.visits.specs.Flow.{Core, Recipe}
-use Rattle.visits.specs.Claims.{Meaning, Right, freeValue, Frees, Considered, Met, Operands, Fine, Plain, StepRight}
+use Rattle.visits.specs.Claims.{Meaning, freeValue, Plain, StepRight}
 
 pub input-value : (M : Meaning) (g : Gate) → g .kind ≡ 2 → freeValue M g ≡ M .value (g .x) (g .y)
 unfolding freeValue pick

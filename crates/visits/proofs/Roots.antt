@@ -1,15 +1,13 @@
 -- The lowering from all bad nodes.
-use mathlib.Core.Path.{_≡_, refl, sym, ap, _∙_, subst}
-use mathlib.Core.List.{List, [], _∷_}
-use mathlib.Core.Bool.{Bool, true, false}
-use Prim.Native.Nat.{ℕ, zero, suc, _+_, _*_, _≤_, _<_}
+use mathlib.Core.Path.{_≡_, sym, ap, _∙_, subst}
+use mathlib.Core.Bool.{true, false}
+use Prim.Native.Nat.{ℕ, zero, suc, _+_, _<_}
 use native.Mathlib.Omega.{arith}
-use native.Mathlib.Decide.{decLt, ℕ-discrete}
+use native.Mathlib.Decide.{ℕ-discrete}
 use lib.ListN.{length, getD}
-use Rattle.loops.specs.Loop.{pick, iter}
 use Rattle.loops.proofs.Loop.{iter-inv}
-use Rattle.visits.specs.Flow.{Core, Low, Recipe, visitTo, rootStep, lowerTo}
-use Rattle.visits.specs.Claims.{Same, Seen, Is, Shape, OwnLaw, Start, Reached, root, left, spent, sumFrom}
+use Rattle.visits.specs.Flow.{Low, Recipe, visitTo, rootStep, lowerTo}
+use Rattle.visits.specs.Claims.{Seen, Is, Shape, OwnLaw, Start, Reached, root, left, spent, sumFrom}
 use Rattle.visits.proofs.Marks.{pick-by, positive, contrary, spent-left, spent-none}
 use Rattle.visits.proofs.Later.{Later, Sound, later-same, later-then, later-most, grows, seen-same, sound-later, visit-later}
 use Rattle.visits.proofs.Walk.{Fit, fit-later, Stays, Invariant, Holds, Visited, visit-holds}

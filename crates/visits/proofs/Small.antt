@@ -1,19 +1,18 @@
 -- Demand 3 over the whole lowering.
 use mathlib.Core.Path.{_≡_, refl, sym, ap, _∙_, subst}
-use mathlib.Core.List.{List, [], _∷_}
-use mathlib.Core.Bool.{Bool, true, false}
+use mathlib.Core.List.{List}
+use mathlib.Core.Bool.{true, false}
 use mathlib.Core.Logic.{_⊎_, inl, inr}
-use Prim.Native.Nat.{ℕ, zero, suc, _+_, _*_, _≤_, _<_}
+use Prim.Native.Nat.{ℕ, zero, _+_, _*_, _≤_, _<_}
 use native.Mathlib.Omega.{arith}
 use lib.ListN.{length, getD}
-use Rattle.netlist.specs.Net.{Net}
 use Rattle.gates.specs.Law.{Formed}
-use Rattle.visits.specs.Flow.{Core, Low, Recipe, owned, mark, lowerTo}
+use Rattle.visits.specs.Flow.{Low, Recipe, owned, mark, lowerTo}
 use Rattle.visits.specs.Claims.{Same, Seen, Is, Under, Asked, Operands, Shape, Step, OwnLaw, Ready, Start, Small, Reached, root, by-first, by-second, by-third, left, spent, sumFrom}
 use Rattle.visits.proofs.Marks.{spent-left, positive}
 use Rattle.visits.proofs.Later.{Later}
 use native.Mathlib.Decide.{ℕ-discrete, decLt}
-use Rattle.visits.proofs.Walk.{Kept, Can, Stays, Invariant, Holds, kept-own}
+use Rattle.visits.proofs.Walk.{Can, Invariant, Holds}
 use Rattle.visits.proofs.Later.{frame-same}
 use Rattle.visits.proofs.Roots.{Rooted, rooted, start-left}
 

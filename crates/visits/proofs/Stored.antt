@@ -1,21 +1,19 @@
 -- From the law of a word to the law of a step.
-use mathlib.Core.Path.{_≡_, refl, sym, ap, _∙_, subst}
+use mathlib.Core.Path.{_≡_, refl}
 use mathlib.Core.List.{List}
-use mathlib.Core.Bool.{Bool, true, false}
-use Prim.Native.Nat.{ℕ, zero, suc, _+_, _*_, _≤_, _<_}
+use mathlib.Core.Bool.{false}
+use Prim.Native.Nat.{ℕ, _+_, _≤_}
 use native.Mathlib.Omega.{arith}
-use lib.ListN.{length, getD}
-use Rattle.netlist.specs.Net.{Net, Assign}
-use Rattle.netlist.specs.declared.record.Gate.{Gate}
-use Rattle.netlist.specs.Record.{gateAt, Room}
-use Rattle.gates.specs.Law.{Formed, Grows}
+use lib.ListN.{length}
+use Rattle.netlist.specs.Net.{Net}
+use Rattle.netlist.specs.Record.{Room}
+use Rattle.gates.specs.Law.{Grows}
 use Rattle.digits.specs.Digits.{Below}
 use Rattle.words.specs.Each.{putBits, Put}
 use Rattle.words.proofs.EachLaws.{put-law}
 use Rattle.visits.specs.Flow.{Core, Recipe}
-use Rattle.visits.specs.Claims.{Meaning, Right, Under, bitAt, Considered, Operands, Frame, Ready, Step, Plain, StepRight}
-use Rattle.visits.specs.Stored.{stored, WordLaw, WordRight}
-use Rattle.visits.proofs.Plain.{plain-right}
+use Rattle.visits.specs.Claims.{Under, Ready, Step}
+use Rattle.visits.specs.Stored.{stored, WordLaw}
 
 -- after a step with room there is room for what was made
 pub room-after : {R : Recipe} {k : ℕ} {s : Core} {net : Net} → Ready R k s → Grows (s .net) net (R .gates k) → Room (net .gates) (net .n)
@@ -50,14 +48,3 @@ module _ (R : Recipe) (k : ℕ) (s : Core) (net : Net) (out : List ℕ) (fits : 
         asked = λ r _ i lo hi. absurd (omega arith);
         known = λ r _ g o. (law .known r g o .0, refl, under 2 (law .known r g o .1));
       }
-
-  pub word-right : {M : Meaning} → WordRight R M k s net out → StepRight R M k s (stored (R .off k) (R .bits k) s net out)
-  unfolding stored
-  word-right {M} law =
-      plain-right
-      (record {
-        asks = refl;
-        only = law .only;
-        divides = law .divides;
-        right = λ e ce o j lt. ap e (here .there j lt) ∙ law .right e ce o j lt;
-      })

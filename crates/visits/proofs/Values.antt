@@ -1,24 +1,23 @@
 -- Demand 2 over the whole lowering.
 use mathlib.Core.Path.{_≡_, refl, sym, ap, _∙_, subst}
-use mathlib.Core.List.{List, [], _∷_}
+use mathlib.Core.List.{List}
 use mathlib.Core.Bool.{Bool, true, false}
-use Prim.Native.Nat.{ℕ, zero, suc, _+_, _*_, _≤_, _<_}
+use Prim.Native.Nat.{ℕ, zero, suc, _+_, _*_, _<_}
 use native.Mathlib.Omega.{arith}
 use native.Mathlib.Decide.{decLt}
 use lib.Dec.{eqb}
-use lib.ListN.{length, getD}
+use lib.ListN.{getD}
 use borrow.Author.Tests.{eq-eqb}
 use Rattle.netlist.specs.Net.{Net, Assign, Says, Obeys}
 use Rattle.netlist.specs.declared.record.Gate.{Gate}
 use Rattle.netlist.specs.Record.{gate, gateAt, Room}
 use Rattle.loops.specs.Loop.{pick}
-use Rattle.netlist.specs.Kind.{valueOf, free}
+use Rattle.netlist.specs.Kind.{free}
 use Rattle.gates.specs.Law.{Formed}
 use Rattle.gates.proofs.FormedLaws.{one-assignment, solved, solved-obeys, solved-given}
-use Rattle.visits.specs.Flow.{Core, Low, Recipe, owned, mark, lowerTo}
-use Rattle.visits.specs.Claims.{Same, Seen, Is, Under, Meaning, Right, freeValue, Frees, Considered, Met, Operands, Reached, Shape, OwnLaw, OwnRight, Fine, Step, StepRight, Ready, Start, Lowered}
+use Rattle.visits.specs.Flow.{Low, Recipe, owned, mark, lowerTo}
+use Rattle.visits.specs.Claims.{Same, Seen, Is, Meaning, Right, freeValue, Frees, Considered, Met, Operands, Reached, Shape, OwnLaw, OwnRight, Fine, Ready, Start, Lowered}
 use Rattle.visits.proofs.Marks.{contrary}
-use Rattle.visits.proofs.Later.{Later}
 use Rattle.visits.proofs.Walk.{Kept, kept-own, Can, Invariant, Holds, Fit, fit-later}
 use Rattle.visits.proofs.Roots.{Rooted, rooted, start-fit}
 use Rattle.visits.proofs.Small.{WholeNet, NodeNet, operands-map, ready-of, net-own, net-invariant, start-net, seen-reached}

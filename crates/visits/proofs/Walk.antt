@@ -1,23 +1,17 @@
 -- One induction over the lowering for any claim that is made of a state as a whole and of each node that is finished.
 use mathlib.Core.Path.{_≡_, refl, sym, ap, _∙_, subst}
-use mathlib.Core.List.{List, [], _∷_}
-use mathlib.Core.Bool.{Bool, true, false}
 use Prim.Native.Nat.{ℕ, zero, suc, _+_, _*_, _≤_, _<_}
 use native.Mathlib.Omega.{arith}
 use native.Mathlib.Decide.{decLt, ℕ-discrete}
 use lib.Dec.{eqb}
 use lib.ListN.{length, getD, set, length-set}
 use lib.Seq.{getD-set-same, getD-set-other}
-use Rattle.netlist.specs.Net.{Net}
-use Rattle.netlist.specs.declared.record.Gate.{Gate}
 use Rattle.netlist.specs.Record.{gateAt, Room}
-use Rattle.loops.specs.Loop.{pick, iter}
-use Rattle.gates.specs.Law.{Grows}
-use Rattle.loops.proofs.Loop.{iter-inv}
-use Rattle.visits.specs.Flow.{Core, Low, Recipe, owned, enter, mark, visitTo, rootStep, lowerTo}
+use Rattle.loops.specs.Loop.{pick}
+use Rattle.visits.specs.Flow.{Core, Low, Recipe, owned, enter, mark, visitTo}
 use Rattle.visits.specs.Claims.{Same, Seen, Is, Shape, Frame, OwnLaw, Operands, Reached, by-first, by-second, by-third, left}
-use Rattle.visits.proofs.Marks.{pick-eq, pick-by, positive, left-marked}
-use Rattle.visits.proofs.Later.{Later, Sound, later-same, later-then, later-most, grows, fresh, seen-same, sound-later, frame-same, later-own, Keeps, Steps, steps, visit-later}
+use Rattle.visits.proofs.Marks.{pick-eq, positive, left-marked}
+use Rattle.visits.proofs.Later.{Later, Sound, later-then, later-most, grows, fresh, seen-same, frame-same, later-own, Keeps, Steps, steps, visit-later}
 
 -- what was there is there
 pub record Kept (s t : Low) : Type 0 where

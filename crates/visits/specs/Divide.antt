@@ -1,12 +1,10 @@
 -- What the own step of a division with unknown operands owes, from which the law of values follows.
 use mathlib.Core.Path.{_≡_}
-use mathlib.Core.Bool.{Bool, true, false}
+use mathlib.Core.Bool.{true, false}
 use mathlib.Core.Logic.{_⊎_, _↔_}
-use Prim.Native.Nat.{ℕ, zero, suc, _+_, _*_, _^_, _≤_, _<_}
-use Rattle.netlist.specs.Net.{Net, Assign}
-use Rattle.netlist.specs.declared.record.Gate.{Gate}
+use Prim.Native.Nat.{ℕ, zero, _+_, _*_, _≤_, _<_}
+use Rattle.netlist.specs.Net.{Assign}
 use Rattle.netlist.specs.Record.{gate, gateAt, Room}
-use Rattle.loops.specs.Loop.{bit}
 use Rattle.netlist.specs.Kind.{free}
 use Rattle.digits.specs.Digits.{number}
 use Rattle.visits.specs.Flow.{Core, Recipe}

@@ -1,18 +1,14 @@
 -- What a kind owes that makes one word, stored in the node's part of the map, and records no constraint.
 use mathlib.Core.Path.{_≡_}
 use mathlib.Core.List.{List}
-use mathlib.Core.Bool.{Bool, true, false}
-use Prim.Native.Nat.{ℕ, zero, suc, _+_, _*_, _≤_, _<_}
-use lib.ListN.{getD}
-use Rattle.netlist.specs.Net.{Net, Assign}
-use Rattle.netlist.specs.declared.record.Gate.{Gate}
-use Rattle.netlist.specs.Record.{gateAt, Room}
-use Rattle.netlist.specs.Kind.{free}
+use mathlib.Core.Bool.{false}
+use Prim.Native.Nat.{ℕ}
+use Rattle.netlist.specs.Net.{Net}
 use Rattle.gates.specs.Law.{Formed, Grows}
 use Rattle.digits.specs.Digits.{Below}
 use Rattle.words.specs.Each.{putBits}
 use Rattle.visits.specs.Flow.{Core, Recipe}
-use Rattle.visits.specs.Claims.{Meaning, Right, Under, Considered, Operands, Ready}
+use Rattle.visits.specs.Claims.{Under, Operands, Ready}
 
 -- the word `out` of w bits, made with the net grown to `net`, in the map at a place (it takes no recipe: a recipe's own step is made of it)
 unfoldable pub stored : ℕ → ℕ → Core → Net → List ℕ → Core
@@ -22,8 +18,3 @@ pub record WordLaw (R : Recipe) (k : ℕ) (s : Core) (net : Net) (out : List ℕ
   pub grows : Grows (s .net) net (R .gates k)
   pub formed : Ready R k s → Formed net × Below (net .n) out (R .bits k)
   pub known : Ready R k s → R .given k ≡ false → Operands R (s .map) k (Under R 2 (s .map)) → (net .n ≡ s .net .n) × Below 2 out (R .bits k)
-
-pub record WordRight (R : Recipe) (M : Meaning) (k : ℕ) (s : Core) (net : Net) (out : List ℕ) : Type 0 where
-  pub only : Room (net .gates) (net .n) → (g : ℕ) → s .net .n ≤ g → g < net .n → free (gateAt (net .gates) g .kind) ≡ true → gateAt (net .gates) g .kind ≡ 2
-  pub divides : (e : Assign) → Considered M net e → Operands R (s .map) k (Right R M e (s .map)) → M .byZero k ≡ false
-  pub right : (e : Assign) → Considered M net e → Operands R (s .map) k (Right R M e (s .map)) → (j : ℕ) → j < R .bits k → e (getD out j 0) ≡ M .value k j

@@ -1,11 +1,9 @@
 -- What the code's calls come to, path by path, over the definitions alone: a proof of the code cites each by its bare name in `search`.
-use mathlib.Core.Path.{_≡_, refl, ap, sym, _∙_}
+use mathlib.Core.Path.{_≡_, refl, ap, _∙_}
 use mathlib.Core.List.{List}
-use mathlib.Core.Bool.{Bool}
-use Prim.Native.Nat.{ℕ, suc, _-_, _+_, _*_, _≤_, _<_}
+use Prim.Native.Nat.{ℕ, _-_, _+_, _*_, _≤_, _<_}
 use native.Mathlib.Omega.{arith}
-use native.Mathlib.Numerals.{add-one}
-use lib.ListN.{length, getD, set, length-set}
+use lib.ListN.{length, getD, set}
 use Rattle.loops.specs.Loop.{iter, sum}
 use Rattle.netlist.specs.Net.{Net}
 use Rattle.gates.specs.declared.made.At.{At}
@@ -13,7 +11,6 @@ use Rattle.gates.specs.Made.{MadeBit, MadeSum, netOf, madeOf, sumOf, kept}
 use Rattle.gates.specs.Fold.{notBit, andBit, orBit, xnorBit, notCost, xnorCost}
 use Rattle.gates.specs.Choice.{muxBit}
 use Rattle.gates.specs.Adder.{adderBit, adderCost}
-use Rattle.gates.specs.Law.{Ext, Grows}
 use Rattle.digits.specs.Digits.{putDigits}
 use Rattle.words.specs.declared.each.Bitwise.{Bitwise}
 use Rattle.words.specs.declared.each.Bitwise.the-variants.{Not, And, Or, Xnor, AndWith, Choose}
@@ -24,9 +21,8 @@ use Rattle.words.specs.Sub.{subWords, subCost, widened, ultWords}
 use Rattle.words.specs.Eq.{andStep, andAll, eqWords, eqCost}
 use Rattle.words.specs.Mul.{rowOf, mulStep, mulWords, mulCost}
 use Rattle.words.proofs.Sums.{sum-within}
-use Rattle.words.proofs.NumLaws.{blank-long}
 use Rattle.words.proofs.EachLaws.{each-ext, each-long, put-law}
-use Rattle.words.proofs.AddLaws.{onto-law, onto-long, copied-cost, chain-three}
+use Rattle.words.proofs.AddLaws.{onto-law, copied-cost, chain-three}
 use Rattle.words.proofs.SubLaws.{nots-less, wide-cost, wide-long}
 use Rattle.words.proofs.EqLaws.{ands-ext}
 use Rattle.words.proofs.MulLaws.{row-cost, rows-room}
@@ -114,12 +110,6 @@ add-path from right g g′ out n n′ c c′ b j e =
     ap {B = Chain} (λ (m : MadeSum). record { net = m .net; carry = m .carry; out = set out (from + j) (m .sum) }) e
 
 module _ (from : ℕ) (right : List ℕ) (s : Chain) (g out : List ℕ) (n : At) (c j : ℕ) (e : chainOf g n c out ≡ addOnto from right j s) where
-  pub onto-gates : from + j ≤ length (s .out) → length g ≡ length (s .net .gates)
-  onto-gates h = ap (λ (x : Chain). length (x .net .gates)) e ∙ onto-law from right s j h .ext .grows .long
-
-  pub onto-out : length out ≡ length (s .out)
-  onto-out = ap (λ (x : Chain). length (x .out)) e ∙ onto-long from right s j
-
   pub onto-most : from + j ≤ length (s .out) → n .n ≤ s .net .n + chainCost from (s .out) right j
   onto-most h = omega (arith, ap (λ (x : Chain). x .net .n) e, onto-law from right s j h .ext .grows .upto)
 
@@ -172,9 +162,6 @@ and-path bits g g′ n n′ b b′ i e = e
 module _ (bits : List ℕ) (s : Net) (g : List ℕ) (n : At) (b b₀ i : ℕ) (e : madeOf g n b ≡ iter i (andStep bits) (kept s b₀)) where
   pub ands-most : n .n ≤ s .n + i
   ands-most = omega (arith, ap (λ (m : MadeBit). m .net .n) e, ands-ext bits s b₀ i .grows .upto)
-
-  pub ands-gates : length g ≡ length (s .gates)
-  ands-gates = ap (λ (m : MadeBit). length (m .net .gates)) e ∙ ands-ext bits s b₀ i .grows .long
 
 module _ (left right g g₁ x : List ℕ) (n n₁ : At) (w : ℕ) (e : wordOf g₁ n₁ x ≡ eachBit Xnor left right w (wordOf g n blank)) where
   pub eq-room : n₁ .n + (w - 1) ≤ n .n + eqCost left right w
