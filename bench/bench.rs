@@ -5,7 +5,7 @@ mod tables;
 use original::tables;
 
 use ramstitcher::{eval_gates, eval_words, lower, room, Lowered, CONSTRAINT, GATE};
-use tables::{adds, memory, mix, two, Table, DIVU, MUL};
+use tables::{adds, masks, memory, mix, two, Table, DIVU, MUL};
 
 /// A time is the lowest of the medians of this many passes over all tables, each of this many rounds: other load only ever adds.
 const PASSES: usize = 9;
@@ -166,6 +166,7 @@ fn run() {
         ("mix of 128 nodes", mix(128)),
         ("mix of 256 nodes", mix(256)),
         ("mix of 512 nodes", mix(512)),
+        ("16 times srl, sll, or and add", masks(16)),
     ];
     let mut all: Vec<Found> = tables.iter().map(|(_, t)| measure(t)).collect();
     for _ in 1..PASSES {

@@ -6,7 +6,7 @@ use tables::*;
 use unicorn::bitblasting::{bitblast_model, get_constant, Gate, GateModel, GateRef};
 use unicorn::{Model, Node, NodeRef, NodeType};
 
-/// The model of a table that the benchmark measures; the original stops at any memory, so that none is built for one.
+/// The model of a table that the benchmark measures; the original stops at any memory and any or, so that none is built for them.
 pub fn model(table: &Table) -> Option<Model> {
     let sort = |width| match width {
         1 => NodeType::Bit,

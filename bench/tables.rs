@@ -18,6 +18,9 @@ pub const MUL: u64 = 13;
 pub const DIVU: u64 = 14;
 pub const READ: u64 = 16;
 pub const WRITE: u64 = 17;
+pub const OR: u64 = 18;
+pub const SLL: u64 = 20;
+pub const SRL: u64 = 21;
 
 impl Table {
     fn new(word: u64) -> Table {
@@ -82,6 +85,20 @@ pub fn mix(nodes: u64) -> Table {
         x = t.node(ADD, 64, x, y, 0);
     }
     t.reached(x, 1)
+}
+
+/// A 64-bit word moved down and up by an amount that is an input, the two joined and an input added: so many times.
+pub fn masks(n: u64) -> Table {
+    let mut t = Table::new(64);
+    let (x, amount) = (t.input(64), t.input(64));
+    let mut last = x;
+    for _ in 0..n {
+        let down = t.node(SRL, 64, last, amount, 0);
+        let up = t.node(SLL, 64, last, amount, 0);
+        let both = t.node(OR, 64, down, up, 0);
+        last = t.node(ADD, 64, both, x, 0);
+    }
+    t.reached(last, x)
 }
 
 /// A memory of 64 words of 32 bits: four writes and four reads, each at an address that is an input.

@@ -33,7 +33,7 @@ impl Random {
     fn any(&mut self) -> u64 {
         match self.below(8) {
             0 => self.next(),
-            1 => self.pick(&[16, 17, 18, 23, 24, 63, 64, 65, 127, 255, 256, 512, u32::MAX as u64, 1 << 32, 1 << 63, u64::MAX]),
+            1 => self.pick(&[16, 17, 18, 19, 20, 21, 22, 23, 24, 63, 64, 65, 127, 255, 256, 512, u32::MAX as u64, 1 << 32, 1 << 63, u64::MAX]),
             2 => self.below(64),
             _ => self.below(8),
         }
@@ -78,7 +78,7 @@ fn table(r: &mut Random) -> (Vec<u64>, Vec<u64>, u64) {
         let addresses = r.below(3) as usize;
         return ((0..n).map(|_| r.any()).collect(), (0..addresses).map(|_| r.any()).collect(), r.any());
     }
-    let word = r.pick(&[1, 1, 2, 2, 2, 3, 3, 4, 5, 64]);
+    let word = r.pick(&[1, 1, 2, 2, 2, 3, 3, 4, 5, 8, 9, 64]);
     let mut addresses: Vec<u64> = Vec::new();
     for _ in 0..r.below(4) {
         let a = r.below(1 << word.min(3));
@@ -91,7 +91,14 @@ fn table(r: &mut Random) -> (Vec<u64>, Vec<u64>, u64) {
     let nodes = if r.one_in(2000) { 500 + r.below(20) } else { r.below(12) };
     let usual = r.pick(&[1, 2, 2, 3, 3, 4, word]);
     for _ in 0..nodes {
-        let node = good_node(r, &widths, usual, word);
+        let mut node = good_node(r, &widths, usual, word);
+        if matches!(node[0], 20 | 21) && node[1] != 0 {
+            for part in amount(r, widths.len() as u64, node[1], node[3]) {
+                widths.push(part[1]);
+                flat.extend(part);
+                node[3] = widths.len() as u64;
+            }
+        }
         widths.push(node[1]);
         flat.extend(node);
     }
@@ -130,6 +137,21 @@ fn table(r: &mut Random) -> (Vec<u64>, Vec<u64>, u64) {
     (flat, addresses, word)
 }
 
+/// The nodes of a shift's amount, after the last node: a constant, a word of which few bits are unknown, or none where the amount stays node b.
+fn amount(r: &mut Random, last: u64, width: u64, b: u64) -> Vec<[u64; 6]> {
+    let number = match r.below(6) {
+        0 => r.next(),
+        1 | 2 => width - 1 + r.below(3),
+        _ => r.below(width),
+    } & u64::MAX >> (64 - width);
+    let number = [1, width, 0, 0, 0, number];
+    match r.below(4) {
+        0 | 1 => vec![number],
+        2 => vec![number, [6, width, b, last + 1, 0, 0]],
+        _ => vec![],
+    }
+}
+
 /// A node that keeps the sorts where operands for it are there.
 fn good_node(r: &mut Random, widths: &[u64], usual: u64, word: u64) -> [u64; 6] {
     let of = |r: &mut Random, width: u64| {
@@ -146,7 +168,7 @@ fn good_node(r: &mut Random, widths: &[u64], usual: u64, word: u64) -> [u64; 6] 
         _ => [2, width, 0, 0, 0, 0],
     };
     let width = r.pick(&[usual, usual, usual, 1, word, 0]);
-    let kind = 1 + r.below(17);
+    let kind = r.pick(&[1, 2, 3, 4, 5, 6, 7, 8, 9, 10, 11, 12, 13, 14, 15, 16, 17, 18, 20, 20, 21, 21]);
     let node = match kind {
         1..=3 => return if r.one_in(8) { [3, width, of(r, width), 0, 0, 0] } else { leaf(r, width) },
         4 => [4, width, of(r, width), 0, 0, 0],

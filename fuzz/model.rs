@@ -26,6 +26,9 @@ const DIVU: u64 = 14;
 const REM: u64 = 15;
 const READ: u64 = 16;
 const WRITE: u64 = 17;
+const OR: u64 = 18;
+const SLL: u64 = 20;
+const SRL: u64 = 21;
 
 fn below(x: u64, width: u64) -> bool {
     width >= 64 || x >> width == 0
@@ -37,6 +40,11 @@ fn cut(x: u64, width: u64) -> u64 {
     } else {
         x & ((1 << width) - 1)
     }
+}
+
+/// How many amount bits have a stage of their own: those of place j with 2^j below the width.
+fn stages(width: u64) -> u64 {
+    (0..64).filter(|&j| 1 << j < width).count() as u64
 }
 
 /// A table as it is offered: any numbers.
@@ -102,7 +110,7 @@ impl Table<'_> {
             if !(1..=23).contains(&d.kind) {
                 return (3, k);
             }
-            if d.kind >= 18 {
+            if matches!(d.kind, 19 | 22 | 23) {
                 return (4, k);
             }
             if !self.operands(k, d) {
@@ -167,7 +175,7 @@ impl Table<'_> {
             map += self.bits(v) as u64;
             gates += match d.kind {
                 _ if d.given() => self.bits(v) as u64,
-                NOT | AND => v,
+                NOT | AND | OR => v,
                 EQ => 3 * of() - 1,
                 ADD => 3 * v,
                 SUB => 4 * v,
@@ -177,6 +185,7 @@ impl Table<'_> {
                 READ => n * (4 * w - 1),
                 WRITE => n * (5 * w - 1),
                 DIVU | REM => 2 * v * v + 13 * v + 1 + v * (v - 1) / 2,
+                SLL | SRL => 3 * v * stages(v) + 2 * v - stages(v) - 1,
                 _ => 0,
             };
             if matches!(d.kind, DIVU | REM) {
@@ -244,7 +253,11 @@ pub fn eval_words(t: Table, values: &mut [u64]) -> Answer {
                     ULT => (x < y) as u64,
                     MUL => cut(x.wrapping_mul(y), d.width),
                     DIVU => x.checked_div(y).unwrap_or(cut(u64::MAX, d.width)),
-                    _ => x.checked_rem(y).unwrap_or(x),
+                    REM => x.checked_rem(y).unwrap_or(x),
+                    OR => x | y,
+                    _ if y >= d.width => 0,
+                    SLL => cut(x << y, d.width),
+                    _ => x >> y,
                 }]
             }
         };
@@ -372,6 +385,27 @@ impl Net {
         }
     }
 
+    fn choices(&mut self, c: u32, yes: &[u32], no: &[u32]) -> Vec<u32> {
+        yes.iter().zip(no).map(|(&t, &f)| self.choice(c, t, f)).collect()
+    }
+
+    /// Left moves bits up, the other way moves them down; known false comes in.
+    fn shift(&mut self, word: &[u32], amount: &[u32], left: bool) -> Vec<u32> {
+        let w = word.len();
+        let s = stages(w as u64) as usize;
+        let mut word = word.to_vec();
+        for (j, &c) in amount[..s].iter().enumerate() {
+            let (by, falses) = (1 << j, vec![0; 1 << j]);
+            let moved = if left { [&falses, &word[..w - by]].concat() } else { [&word[by..], &falses].concat() };
+            word = self.choices(c, &moved, &word);
+        }
+        let mut beyond = amount[s];
+        for &x in &amount[s + 1..] {
+            beyond = self.or(beyond, x);
+        }
+        self.choices(beyond, &vec![0; w], &word)
+    }
+
     fn eq(&mut self, left: &[u32], right: &[u32]) -> u32 {
         let same: Vec<u32> = left.iter().zip(right).map(|(&x, &y)| self.xnor(x, y)).collect();
         let mut all = same[0];
@@ -473,13 +507,15 @@ impl Lowering<'_> {
             EXT => [x.clone(), vec![0; 64 - x.len()]].concat(),
             NOT => x.iter().map(|&b| net.not(b)).collect(),
             AND => x.iter().zip(&y).map(|(&a, &b)| net.and(a, b)).collect(),
+            OR => x.iter().zip(&y).map(|(&a, &b)| net.or(a, b)).collect(),
+            SLL | SRL => net.shift(&x, &y, d.kind == SLL),
             EQ => vec![net.eq(&x, &y)],
             ADD => {
                 let mut sum = x;
                 net.chain(&mut sum, &y, 0);
                 sum
             }
-            ITE => y.iter().zip(&z).map(|(&t, &f)| net.choice(x[0], t, f)).collect(),
+            ITE => net.choices(x[0], &y, &z),
             SUB => net.sub(&x, &y),
             ULT => vec![net.ult(&x, &y)],
             MUL => net.mul(&x, &y),

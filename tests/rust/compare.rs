@@ -3,12 +3,14 @@ use crate::model::*;
 use crate::ours::Ours;
 use crate::theirs::{self, Theirs};
 
-/// What may differ at a node. `MoreOfSub`, `MoreOfUlt` and `Fewer` follow from document 01's recipe for sub and ult, which knows more bits; they are
-/// allowed where one of these is reached over a right operand that the original does not wholly know.
+/// What may differ at a node. `MoreOfSub`, `MoreOfUlt`, `MoreOfSrl` and `Fewer` follow from the recipes for sub, ult and srl, which know more bits; they
+/// are allowed where one of these is reached over an operand that the original does not wholly know: the right one, of an srl the word.
 #[derive(Clone, Copy, PartialEq, Eq, Debug)]
 pub enum Difference {
-    /// Refused here, or a constraint recorded: nothing of the shared domain is.
+    /// Refused here, or a constraint recorded: nothing of the shared domain is. There, an srl of an unknown word records constraints, nothing else.
     Refused,
+    /// A constraint there that the right quotient and remainder do not meet.
+    Unmet,
     /// Another number of bits.
     Length,
     /// Reached here only.
@@ -19,18 +21,21 @@ pub enum Difference {
     Value,
     /// Our gates and our word evaluator give different values.
     Words,
-    /// Known here only, at a node that is neither sub nor ult and none of whose operands has such a bit.
+    /// Known here only, at a node that is neither sub nor ult nor srl and none of whose operands has such a bit.
     More,
     /// Known here only, at a sub none of whose operands has such a bit.
     MoreOfSub,
     /// The same at an ult.
     MoreOfUlt,
+    /// The same at an srl.
+    MoreOfSrl,
     /// Reached there only.
     Fewer,
 }
 
-pub const KINDS: [Difference; 10] = [
+pub const KINDS: [Difference; 12] = [
     Difference::Refused,
+    Difference::Unmet,
     Difference::Length,
     Difference::ReachedHere,
     Difference::Lost,
@@ -39,6 +44,7 @@ pub const KINDS: [Difference; 10] = [
     Difference::More,
     Difference::MoreOfSub,
     Difference::MoreOfUlt,
+    Difference::MoreOfSrl,
     Difference::Fewer,
 ];
 
@@ -46,7 +52,7 @@ pub const KINDS: [Difference; 10] = [
 pub struct Compared {
     /// Each kind of difference with the first node that shows it.
     pub found: Vec<(Difference, usize)>,
-    /// No sub or ult is reached there, or their right operands are wholly known there: then nothing at all may differ.
+    /// No sub or ult is reached there over a right operand, and no srl of a word, that is not wholly known there: then nothing at all may differ.
     pub plain: bool,
     pub theirs: Answer,
     pub reached_in_both: usize,
@@ -58,6 +64,7 @@ pub struct Compared {
 pub enum Outcome {
     Stopped(String),
     Divides,
+    Shifts,
     Compared(Compared),
 }
 
@@ -68,7 +75,8 @@ impl Compared {
 
     /// The differences that are not allowed.
     pub fn wrong(&self) -> Vec<(Difference, usize)> {
-        let allowed = |d| !self.plain && matches!(d, Difference::MoreOfSub | Difference::MoreOfUlt | Difference::Fewer);
+        let more = |d| matches!(d, Difference::MoreOfSub | Difference::MoreOfUlt | Difference::MoreOfSrl | Difference::Fewer);
+        let allowed = |d| !self.plain && more(d);
         self.found.iter().copied().filter(|(d, _)| !allowed(*d)).collect()
     }
 
@@ -79,9 +87,10 @@ impl Compared {
     }
 }
 
-fn plain(table: &Table, theirs: &Answer) -> bool {
-    let wholly = |k: usize| theirs.nodes[k - 1].as_ref().is_some_and(|bits| bits.known == mask(bits.count as u64));
-    table.nodes.iter().zip(&theirs.nodes).all(|(n, bits)| bits.is_none() || (n.kind != SUB && n.kind != ULT) || wholly(n.operands[1]))
+/// Whether one of these kinds is reached over an operand that is not wholly known there: the operand of this place.
+fn open(table: &Table, theirs: &Answer, kinds: &[u64], operand: usize) -> bool {
+    let wholly = |k: usize| theirs.nodes[k - 1].as_ref().is_some_and(Bits::wholly_known);
+    table.nodes.iter().zip(&theirs.nodes).any(|(n, bits)| bits.is_some() && kinds.contains(&n.kind) && !wholly(n.operands[operand]))
 }
 
 fn at_node(c: &mut Compared, k: usize, theirs: &Bits, ours: &Bits, words: &[Vec<u64>]) {
@@ -103,7 +112,7 @@ fn at_node(c: &mut Compared, k: usize, theirs: &Bits, ours: &Bits, words: &[Vec<
     c.bits += ours.count as u64;
 }
 
-/// Bits that are known here only begin at a sub or an ult, and are handed on from there.
+/// Bits that are known here only begin at a sub, an ult or an srl, and are handed on from there.
 fn more(c: &mut Compared, table: &Table, theirs: &Answer, ours: &Answer) {
     let has = |k: usize| match (&theirs.nodes[k - 1], &ours.nodes[k - 1]) {
         (Some(there), Some(here)) => here.known & !there.known != 0,
@@ -114,6 +123,7 @@ fn more(c: &mut Compared, table: &Table, theirs: &Answer, ours: &Answer) {
             let kind = match n.kind {
                 SUB => Difference::MoreOfSub,
                 ULT => Difference::MoreOfUlt,
+                SRL => Difference::MoreOfSrl,
                 _ => Difference::More,
             };
             c.note(kind, i + 1);
@@ -122,19 +132,24 @@ fn more(c: &mut Compared, table: &Table, theirs: &Answer, ours: &Answer) {
 }
 
 pub fn compare(table: &Table, given: &[Given], ours: &mut Ours) -> Outcome {
-    let theirs = match theirs::lower(table, given) {
+    let (theirs, met) = match theirs::lower(table, given) {
         Theirs::Stopped(why) => return Outcome::Stopped(why),
         Theirs::Divides => return Outcome::Divides,
-        Theirs::Lowered(answer) => answer,
+        Theirs::Shifts => return Outcome::Shifts,
+        Theirs::Lowered(answer, met) => (answer, met),
     };
-    let plain = plain(table, &theirs);
+    let divided = open(table, &theirs, &[SRL], 0);
+    let plain = !divided && !open(table, &theirs, &[SUB, ULT], 1);
     let empty = Answer { nodes: Vec::new(), constraints: 0 };
     let mut c = Compared { found: Vec::new(), plain, theirs: empty, reached_in_both: 0, known_in_both: 0, known_here: 0, bits: 0 };
     let words: Result<Vec<Vec<u64>>, _> = given.iter().map(|g| ours.words(table, g)).collect();
     match (ours.lower(table, given), words) {
         (Ok(here), Ok(words)) => {
-            if here.constraints + theirs.constraints != 0 {
+            if here.constraints != 0 || (theirs.constraints != 0 && !divided) {
                 c.note(Difference::Refused, 0);
+            }
+            if !met {
+                c.note(Difference::Unmet, 0);
             }
             for (k, both) in theirs.nodes.iter().zip(&here.nodes).enumerate() {
                 match both {

@@ -98,6 +98,18 @@ impl Draft {
         self.push(AND, width, operands, 0)
     }
 
+    /// A shift's amount: a constant below the width, or a known word cut to one; now and then any word.
+    fn amount(&mut self, r: &mut Random, width: u64) -> usize {
+        if r.one_in(20) {
+            let fixed = r.one_in(2);
+            return self.operand(r, width, fixed);
+        }
+        let of = if r.one_in(4) { Some(self.operand(r, width, true)) } else { None };
+        let below = r.below(width as usize) as u64;
+        let number = self.push(CONST, width, [0; 3], below);
+        of.map_or(number, |of| self.push(AND, width, [of, number, 0], 0))
+    }
+
     fn two(&mut self, r: &mut Random, kind: u64, width: u64, of: u64, fixed: bool) -> usize {
         let a = self.operand(r, of, fixed);
         let b = self.operand(r, of, fixed);
@@ -105,8 +117,10 @@ impl Draft {
     }
 
     fn step(&mut self, r: &mut Random, widths: &[u64]) {
-        const KINDS: [u64; 24] =
-            [CONST, INPUT, STATE, STATE, NOT, NOT, AND, AND, AND, EXT, EQ, EQ, ADD, ADD, ADD, ITE, ITE, ITE, SUB, SUB, ULT, MUL, DIVU, REM];
+        const KINDS: [u64; 30] = [
+            CONST, INPUT, STATE, STATE, NOT, NOT, AND, AND, AND, EXT, EQ, EQ, ADD, ADD, ADD, ITE, ITE, ITE, SUB, SUB, ULT, MUL, DIVU, REM, OR, OR, SLL,
+            SLL, SRL, SRL,
+        ];
         let width = r.pick(widths);
         match r.pick(&KINDS) {
             CONST => {
@@ -149,6 +163,13 @@ impl Draft {
                 let a = self.operand(r, width, fixed);
                 // By a known zero the original stops.
                 let b = if r.one_in(8) { self.operand(r, width, fixed) } else { self.divisor(r, width) };
+                self.push(kind, width, [a, b, 0], 0);
+            }
+            kind @ (SLL | SRL) => {
+                // At width 1 the one amount below the width moves nothing.
+                let width = if width == 1 && !r.one_in(4) { r.pick(&widths[1..]) } else { width };
+                let a = self.operand(r, width, false);
+                let b = self.amount(r, width);
                 self.push(kind, width, [a, b, 0], 0);
             }
             kind => {

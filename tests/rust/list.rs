@@ -1,9 +1,9 @@
 //! The fixed list: answers of the original, as numbers alone, that need no Rust to be replayed.
 //!
-//! The first number is the count of cases. A case is: word width, addresses, table; 1 where no sub or ult is reached over a right operand that the
-//! original does not wholly know, else 0; and one number for each place of the bit map: 0 where the node was not reached, 16 for an unknown bit, 32
-//! for a known one, and to these the bit's values under four inputs, as 1, 2, 4 and 8. Each list stands behind its length. The bits of an input are
-//! the inputs themselves.
+//! The first number is the count of cases. A case is: word width, addresses, table; 1 where no sub or ult is reached over a right operand, and no
+//! srl of a word, that the original does not wholly know, else 0; and one number for each place of the bit map: 0 where the node was not reached, 16
+//! for an unknown bit, 32 for a known one, and to these the bit's values under four inputs, as 1, 2, 4 and 8. Each list stands behind its length. The
+//! bits of an input are the inputs themselves.
 use crate::compare::{compare, Compared, Outcome};
 use crate::generate::{self, Random};
 use crate::model::*;
@@ -14,17 +14,23 @@ const LANES: usize = 4;
 /// A listed table has no more gates than this by the ceilings, and no more nodes.
 const GATES: u64 = 4_000;
 const NODES: usize = 24;
+/// The kinds that are to be reached.
+const REACHED: [u64; 18] = [CONST, INPUT, STATE, NOT, BAD, AND, EXT, EQ, ADD, ITE, SUB, ULT, MUL, DIVU, REM, OR, SLL, SRL];
 
 fn ceiling(n: &Node, of: u64) -> u64 {
     match n.kind {
         CONST | BAD | EXT => 0,
         STATE if n.operands[0] != 0 => 0,
-        INPUT | STATE | NOT | AND => of,
+        INPUT | STATE | NOT | AND | OR => of,
         EQ => 3 * of - 1,
         ADD | ITE => 3 * of,
         SUB => 4 * of,
         ULT => 4 * of + 1,
         MUL => 2 * of * (of + 1),
+        SLL | SRL => {
+            let stages = (0..64).filter(|j| 1 << j < of).count() as u64;
+            3 * of * stages + 2 * of - stages - 1
+        }
         _ => 2 * of * of + 13 * of + 1 + of * (of - 1) / 2,
     }
 }
@@ -62,7 +68,7 @@ fn case(table: &Table, c: &Compared) -> Vec<u64> {
 pub fn write(count: usize, seed: u64) -> bool {
     let mut r = Random(seed);
     let mut ours = Ours::new();
-    let mut times = [0usize; 18];
+    let mut times = [0usize; REACHED.len()];
     let mut cases = Vec::new();
     while cases.len() < count {
         let table = generate::table(&mut r);
@@ -72,15 +78,15 @@ pub fn write(count: usize, seed: u64) -> bool {
         }
         let Outcome::Compared(c) = compare(&table, &given, &mut ours) else { continue };
         let reached = |kind: u64| table.nodes.iter().zip(&c.theirs.nodes).filter(|(n, b)| n.kind == kind && b.is_some()).count();
-        let rarest = (CONST..=REM).min_by_key(|kind| times[*kind as usize]).unwrap();
-        if cases.len() % 5 != 0 && reached(rarest) == 0 {
+        let rarest = (0..REACHED.len()).min_by_key(|i| times[*i]).unwrap();
+        if cases.len() % 5 != 0 && reached(REACHED[rarest]) == 0 {
             continue;
         }
         if !c.wrong().is_empty() {
             eprintln!("differs: {}", table.line());
             return false;
         }
-        (CONST..=REM).for_each(|kind| times[kind as usize] += reached(kind));
+        REACHED.iter().zip(&mut times).for_each(|(kind, times)| *times += reached(*kind));
         cases.push(case(&table, &c));
     }
     println!("{}", cases.len());

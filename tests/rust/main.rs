@@ -29,6 +29,7 @@ struct Counts {
     drawn: usize,
     stops: BTreeMap<String, usize>,
     divides: usize,
+    shifts: usize,
     compared: usize,
     plain: usize,
     reached: usize,
@@ -85,6 +86,10 @@ fn run(count: usize, seed: u64) -> bool {
                 n.divides += 1;
                 continue;
             }
+            Outcome::Shifts => {
+                n.shifts += 1;
+                continue;
+            }
             Outcome::Compared(c) => c,
         };
         n.compared += 1;
@@ -102,13 +107,15 @@ fn run(count: usize, seed: u64) -> bool {
         }
     }
     println!("seed {}: {} tables of the shared domain compared, {} differ", seed, n.compared, n.wrong);
-    println!("drawn {}; outside the domain: {} divide an unknown word, {} stop the original", n.drawn, n.divides, n.stops.values().sum::<usize>());
+    let stops = n.stops.values().sum::<usize>();
+    println!("drawn {}; outside the domain: {} divide an unknown word, {} stop the original", n.drawn, n.divides, stops);
+    println!("  {} shift by an amount that is unknown or not below the width", n.shifts);
     for (why, times) in &n.stops {
         println!("  {} times {}", times, why);
     }
     println!("nodes reached in both {}, with {} bits and {} values", n.reached, n.bits, n.reached * LANES);
     println!("bits known in both {}, known here only {}", n.known_in_both, n.known_here - n.known_in_both);
-    println!("tables without sub and ult over an unknown right operand {}", n.plain);
+    println!("tables without sub and ult over an unknown right operand, and without srl of an unknown word {}", n.plain);
     for ((wrong, at), s) in &shown {
         let word = if *wrong { "WRONG" } else { "allowed" };
         println!("{} {:?}: {} tables, the smallest: {}", word, KINDS[*at], s.tables, s.smallest.as_ref().map_or(String::new(), Table::line));

@@ -17,9 +17,14 @@ pub const DIVU: u64 = 14;
 pub const REM: u64 = 15;
 pub const READ: u64 = 16;
 pub const WRITE: u64 = 17;
+pub const OR: u64 = 18;
+pub const SLL: u64 = 20;
+pub const SRL: u64 = 21;
 
-const NAMES: [&str; 18] =
-    ["none", "const", "input", "state", "not", "bad", "and", "ext", "eq", "add", "ite", "sub", "ult", "mul", "divu", "rem", "read", "write"];
+const NAMES: [&str; 22] = [
+    "none", "const", "input", "state", "not", "bad", "and", "ext", "eq", "add", "ite", "sub", "ult", "mul", "divu", "rem", "read", "write", "or", "div",
+    "sll", "srl",
+];
 
 /// The widths that the original's `NodeType` has.
 pub const WIDTHS: [u64; 9] = [1, 8, 16, 24, 32, 40, 48, 56, 64];
@@ -85,6 +90,12 @@ pub struct Bits {
     pub count: usize,
     pub known: u64,
     pub values: Vec<u64>,
+}
+
+impl Bits {
+    pub fn wholly_known(&self) -> bool {
+        self.known == mask(self.count as u64)
+    }
 }
 
 /// A lowering, as far as it is compared: the reached nodes and the number of constraints.

@@ -15,7 +15,7 @@ fn zeros(table: &Table) -> Given {
 }
 
 fn stops(table: &Table, words: &str) -> bool {
-    matches!(theirs::lower(table, &[zeros(table)]), Theirs::Stopped(why) if why.contains(words))
+    theirs::stop(table).is_some_and(|why| why.contains(words))
 }
 
 fn lowered(table: &Table, ours: &mut Ours) -> bool {
@@ -87,15 +87,19 @@ fn zero_by_zero(ours: &mut Ours) -> bool {
     stops(&t, "divide by zero") && refused(&t, 10, 2, ours)
 }
 
+/// Of a table with one division, its words 1 bit wide and node 1 its one input: no quotient and remainder meet the original's constraints.
+fn never_met(table: &Table) -> bool {
+    !(0..8u64).any(|i| {
+        let mut given = zeros(table);
+        given[0] = i & 1;
+        theirs::admits(table, &given, i >> 1 & 1, i >> 2)
+    })
+}
+
 /// With an unknown dividend the original goes on; no quotient and remainder meet its constraints.
 fn unknown_by_zero(ours: &mut Ours) -> bool {
     let t = table(&[(INPUT, 1, [0; 3], 0), (CONST, 1, [0; 3], 0), (DIVU, 1, [1, 2, 0], 0), (BAD, 1, [3, 0, 0], 0)]);
-    let met = (0..8u64).any(|i| {
-        let mut given = zeros(&t);
-        given[0] = i & 1;
-        theirs::admits(&t, &given, i >> 1 & 1, i >> 2)
-    });
-    matches!(theirs::lower(&t, &[zeros(&t)]), Theirs::Divides) && !met && refused(&t, 10, 3, ours)
+    matches!(theirs::lower(&t, &[zeros(&t)]), Theirs::Divides) && never_met(&t) && refused(&t, 10, 3, ours)
 }
 
 /// 1 by 2 at width 8: 128 times 2 and 1 more is 257, of which the original's rows keep 1.
@@ -108,11 +112,61 @@ fn quotient_dropped(ours: &mut Ours) -> bool {
     there == (true, true) && here == (Ok(true), Ok(false))
 }
 
+/// A node's value here.
+fn value(table: &Table, given: &Given, node: usize, ours: &mut Ours) -> Option<u64> {
+    let made = ours.lower(table, std::slice::from_ref(given)).ok()?;
+    made.nodes[node - 1].as_ref().map(|bits| bits.values[0])
+}
+
+fn or(ours: &mut Ours) -> bool {
+    let t = table(&[(INPUT, 1, [0; 3], 0), (OR, 1, [1, 1, 0], 0), (BAD, 1, [2, 0, 0], 0)]);
+    stops(&t, "implement OR") && lowered(&t, ours)
+}
+
+fn known_by_srl(ours: &mut Ours) -> bool {
+    let t = table(&[(INPUT, 8, [0; 3], 0), (CONST, 8, [0; 3], 1), (SRL, 8, [1, 2, 0], 0), (EQ, 1, [1, 3, 0], 0), (BAD, 1, [4, 0, 0], 0)]);
+    differs(&t, Difference::MoreOfSrl, 3, 1, ours)
+}
+
+/// 0 by 2 at width 8: 128 times 2 is 256, of which the original's rows keep 0.
+fn shifted_by_quotient(ours: &mut Ours) -> bool {
+    let t = table(&[(INPUT, 8, [0; 3], 0), (CONST, 8, [0; 3], 1), (SRL, 8, [1, 2, 0], 0), (EQ, 1, [1, 3, 0], 0), (BAD, 1, [4, 0, 0], 0)]);
+    let given = zeros(&t);
+    theirs::admits(&t, &given, 0, 0) && theirs::admits(&t, &given, 128, 0) && value(&t, &given, 3, ours) == Some(0)
+}
+
+/// The original multiplies the powers of the amount's unknown bits, and a power is 0 where its bit is.
+fn unknown_amount(ours: &mut Ours) -> bool {
+    let left = table(&[(INPUT, 1, [0; 3], 0), (CONST, 1, [0; 3], 1), (SLL, 1, [2, 1, 0], 0), (BAD, 1, [3, 0, 0], 0)]);
+    let right = table(&[(INPUT, 1, [0; 3], 0), (SRL, 1, [1, 1, 0], 0), (BAD, 1, [2, 0, 0], 0)]);
+    let given = zeros(&left);
+    let values = (theirs::value(&left, &given, 3), value(&left, &given, 3, ours));
+    values == (Some(0), Some(1)) && never_met(&right) && value(&right, &zeros(&right), 2, ours) == Some(0)
+}
+
+/// By a known amount at the width the original's sll is zero, as it should be; its srl divides by zero.
+fn wide_amount(ours: &mut Ours) -> bool {
+    let by = |kind| table(&[(INPUT, 1, [0; 3], 0), (CONST, 1, [0; 3], 1), (kind, 1, [1, 2, 0], 0), (BAD, 1, [3, 0, 0], 0)]);
+    let (left, right) = (by(SLL), by(SRL));
+    let known = table(&[(CONST, 1, [0; 3], 1), (SRL, 1, [1, 1, 0], 0), (BAD, 1, [2, 0, 0], 0)]);
+    let mut given = zeros(&left);
+    given[0] = 1;
+    let zero = [theirs::value(&left, &given, 3), value(&left, &given, 3, ours), value(&right, &given, 3, ours)] == [Some(0); 3];
+    zero && never_met(&right) && stops(&known, "divide by zero") && value(&known, &zeros(&known), 2, ours) == Some(0)
+}
+
+/// Of an amount of more than 32 bits the original takes the lower 32.
+fn cut_amount(ours: &mut Ours) -> bool {
+    let t = table(&[(CONST, 40, [0; 3], 1), (CONST, 40, [0; 3], 1 << 32), (SLL, 40, [1, 2, 0], 0), (EQ, 1, [1, 3, 0], 0), (BAD, 1, [4, 0, 0], 0)]);
+    let given = zeros(&t);
+    (theirs::value(&t, &given, 3), value(&t, &given, 3, ours)) == (Some(1), Some(0))
+}
+
 type Check = fn(&mut Ours) -> bool;
 
 /// Says how many are as they are said to be, and which are not.
 pub fn run(ours: &mut Ours) -> bool {
-    let all: [(&str, Check); 8] = [
+    let all: [(&str, Check); 14] = [
         ("a memory", memory),
         ("a sub at width 1", narrow_sub),
         ("known bits of ult", known_by_ult),
@@ -121,6 +175,12 @@ pub fn run(ours: &mut Ours) -> bool {
         ("zero by a known zero", zero_by_zero),
         ("an unknown word by a known zero", unknown_by_zero),
         ("quotient bits dropped", quotient_dropped),
+        ("an or", or),
+        ("known bits of srl", known_by_srl),
+        ("quotient bits dropped by an srl", shifted_by_quotient),
+        ("a shift by an unknown amount", unknown_amount),
+        ("a shift by the width", wide_amount),
+        ("a shift by 2^32", cut_amount),
     ];
     let wrong: Vec<&str> = all.iter().filter(|(_, check)| !check(ours)).map(|(name, _)| *name).collect();
     println!("{} named differences, {} are not as docs/DIFFERENCES.md says", all.len(), wrong.len());

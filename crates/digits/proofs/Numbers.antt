@@ -1,13 +1,15 @@
 -- The digits of a number say it, and a number's digits are determined by it.
 use mathlib.Core.Path.{_≡_, refl, ap, sym, _∙_}
 use mathlib.Core.Bool.{Bool, true, false}
-use Prim.Native.Nat.{ℕ, zero, suc, _+_, _*_, _/_, _%_, _^_, _≤_, _<_}
+use Prim.Native.Nat.{ℕ, zero, suc, _+_, _-_, _*_, _/_, _%_, _^_, _≤_, _<_}
 use native.Mathlib.Omega.{arith}
 use native.Mathlib.Decide.{decLt}
 use native.Mathlib.Nat.{pow-suc, div-add-mod, div-div-eq-div-mul, div-one, div-eq-of-lt, mod-lt, mod-eq-of-lt, add-mul-mod-self-left}
-use lib.Dec.{eqb}
-use Rattle.loops.specs.Loop.{bit}
-use Rattle.digits.specs.Digits.{digit, number}
+use lib.Dec.{eqb, leb}
+use borrow.Author.Tests.{leb-true, leb-false, le-leb}
+use Rattle.loops.specs.Loop.{bit, first}
+use Rattle.loops.proofs.Loop.{first-true, first-below, first-le}
+use Rattle.digits.specs.Digits.{digit, powersBelow, number}
 
 pub pow-pos : (i : ℕ) → 0 < 2 ^ i
 pow-pos zero = omega arith
@@ -76,3 +78,29 @@ number-digit u v (suc w) e j h = go (λ q l. number-digit u v w q j l) (u w) (v 
     go ih false false p q e (no l) = let z : j ≡ w = omega arith in rw z (p ∙ sym q)
     go ih true false p q e l = absurd (omega (arith, number-lt u w, number-lt v w))
     go ih false true p q e l = absurd (omega (arith, number-lt u w, number-lt v w))
+
+pow-more : (i : ℕ) → i < 2 ^ i
+pow-more zero = omega arith
+pow-more (suc i) = rw (pow-suc 2 i) (omega (arith, pow-more i))
+
+-- the powers of two below w: each of them is, the next is not, and they are fewer than w
+module _ (w : ℕ) where
+  pub powers-each : (j : ℕ) → j < powersBelow w → 2 ^ j < w
+  unfolding powersBelow
+  powers-each j l = leb-false w (2 ^ j) (first-below (λ j. leb w (2 ^ j)) w j l)
+
+  pub powers-few : powersBelow w ≤ w
+  unfolding powersBelow
+  powers-few = first-le (λ j. leb w (2 ^ j)) w
+
+  pub powers-less : 1 ≤ w → powersBelow w < w
+  unfolding powersBelow
+  powers-less h = go (decLt (w - 1) (first w (λ j. leb w (2 ^ j))))
+    where
+      go : Dec (w - 1 < first w (λ j. leb w (2 ^ j))) → first w (λ j. leb w (2 ^ j)) < w
+      go (yes l) = absurd (omega (arith, leb-false w (2 ^ (w - 1)) (first-below (λ j. leb w (2 ^ j)) w (w - 1) l), pow-more (w - 1)))
+      go (no l) = omega arith
+
+  pub powers-enough : 1 ≤ w → w ≤ 2 ^ powersBelow w
+  unfolding powersBelow
+  powers-enough h = leb-true w (2 ^ first w (λ j. leb w (2 ^ j))) (first-true (λ j. leb w (2 ^ j)) w (powers-less h))

@@ -2,21 +2,22 @@
 use mathlib.Core.Path.{_≡_, refl, ap, sym, _∙_}
 use mathlib.Core.List.{List}
 use mathlib.Core.Bool.{Bool, true, false, not, false≢true}
-use Prim.Native.Nat.{ℕ, zero, suc, _+_, _*_, _/_, _^_, _≤_, _<_}
+use Prim.Native.Nat.{ℕ, zero, suc, _+_, _*_, _/_, _%_, _^_, _≤_, _<_}
 use native.Mathlib.Omega.{arith}
 use native.Mathlib.Decide.{decLt}
-use native.Mathlib.Nat.{pow-suc, pow-le-pow-right}
+use native.Mathlib.Nat.{pow-suc, pow-le-pow-right, mod-eq-of-lt, one-mul}
 use lib.Bits.{bitAnd, and-mask}
 use native.Mathlib.Numerals.{add-one}
 use lib.Dec.{eqb, ltb, leb}
+use lib.Pow.{pow-lt}
 use lib.ListN.{length, getD, set, length-set}
 use lib.Seq.{getD-set-same, getD-set-other}
 use borrow.Author.Tests.{leb-true, leb-false, le-leb, lt-leb, not-false}
 use Rattle.loops.specs.Loop.{iter, first, bit}
-use Rattle.loops.proofs.Loop.{iter-inv, first-below, first-true, first-le}
+use Rattle.loops.proofs.Loop.{iter-inv, first-below, first-true, first-le, first-found, first-more, first-done}
 use Rattle.netlist.specs.Bit.{isKnown}
 use Rattle.netlist.proofs.BitLaws.{known-less, less-known}
-use Rattle.digits.specs.Digits.{digit, number, digitStep, putDigits, Below, unknownAt, allKnown, knownBits, knownNumber}
+use Rattle.digits.specs.Digits.{digit, powersBelow, number, digitStep, putDigits, Below, unknownAt, allKnown, knownBits, knownNumber}
 use Rattle.digits.proofs.Numbers.{digit-lt, bit-eqb, number-lt}
 
 -- after putDigits: the digits stand there, and every other place is as before
@@ -104,3 +105,21 @@ number-done v i w x h k e = let q : w ≡ i = omega arith in rw q e
 
 pub number-less : (v : ℕ → Bool) (i x : ℕ) → x ≡ number v i → x < 2 ^ i
 number-less v i x e = rw e (number-lt v i)
+
+-- the search for the first power of two that is not below w; the code has the power by a shift
+module _ (w j : ℕ) where
+  by-shift : j < w → w ≤ 64 → 1 * 2 ^ j % 2 ^ 64 ≡ 2 ^ j
+  by-shift l h =
+      let small : 2 ^ j < 2 ^ 64 = pow-lt {i = j} {j = 64} (omega arith) in
+      rw (one-mul (2 ^ j)) (mod-eq-of-lt small)
+
+  pub power-here : j < w → w ≤ 64 → j ≡ first j (λ i. leb w (2 ^ i)) → w ≤ 1 * 2 ^ j % 2 ^ 64 → j ≡ powersBelow w
+  unfolding powersBelow
+  power-here l k e h = first-found (λ i. leb w (2 ^ i)) w j true l e (sym (le-leb w (2 ^ j) (omega (arith, by-shift l k)))) refl
+
+  pub power-next : j < w → w ≤ 64 → j ≡ first j (λ i. leb w (2 ^ i)) → 1 * 2 ^ j % 2 ^ 64 < w → j + 1 ≡ first (j + 1) (λ i. leb w (2 ^ i))
+  power-next l k e h = first-more (λ i. leb w (2 ^ i)) j false e (sym (lt-leb w (2 ^ j) (omega (arith, by-shift l k)))) refl
+
+  pub powers-done : w ≤ j → j ≤ w → j ≡ first j (λ i. leb w (2 ^ i)) → j ≡ powersBelow w
+  unfolding powersBelow
+  powers-done h k e = first-done (λ i. leb w (2 ^ i)) j w h k e

@@ -11,6 +11,10 @@ use Rattle.netlist.specs.Bit.{isKnown}
 unfoldable pub digit : ℕ → ℕ → ℕ
 digit a i = a / 2 ^ i % 2
 
+-- how many powers of two are below w: 2^0, 2^1 and so on
+unfoldable pub powersBelow : ℕ → ℕ
+powersBelow w = first w (λ j. leb w (2 ^ j))
+
 -- the number that w truth values say
 unfoldable pub number : (ℕ → Bool) → ℕ → ℕ
 number v zero = 0

@@ -3,7 +3,7 @@ ghost use mathlib.Core.Path.{_≡_};
 ghost use Prim.Native.Nat.{ℕ, _+_, _*_, _^_, _≤_, _<_};
 ghost use lib.ListN.{length};
 ghost use Rattle.loops.specs.Loop.{iter, bit};
-ghost use Rattle.digits.specs.Digits.{digit, putDigits, allKnown, Below, knownNumber};
+ghost use Rattle.digits.specs.Digits.{digit, powersBelow, putDigits, allKnown, Below, knownNumber};
 use netlist::record::Gate;
 
 // Digit i of a, by shift and mask.
@@ -38,6 +38,21 @@ pub fn all_known(bits: &[u32]) -> bool
         i += 1;
     }
     true
+}
+
+// How many powers of two are below w.
+pub fn powers_below(w: usize) -> usize
+    requires { ⌜ w ≤ 64 ⌝ }
+    ensures { λ r. ⌜ r ≡ powersBelow w ⌝ }
+{
+    let mut j = 0;
+    while j < w {
+        if w <= 1 << j {
+            return j;
+        }
+        j += 1;
+    }
+    j
 }
 
 fn with_digit(x: u64, b: u32, i: usize) -> u64

@@ -1,16 +1,17 @@
 -- The law of a choice: the value of the side that the condition picks.
 use mathlib.Core.Path.{_≡_, refl, ap, sym, _∙_}
 use mathlib.Core.Bool.{Bool, true, false, not, _&&_, _||_}
-use Prim.Native.Nat.{ℕ, _+_, _≤_, _<_}
+use Prim.Native.Nat.{ℕ, zero, suc, _+_, _≤_, _<_}
 use native.Mathlib.Omega.{arith}
 use lib.Dec.{eqb}
 use borrow.Author.Tests.{eqb-true, eqb-false}
 use Rattle.loops.specs.Loop.{pick}
 use Rattle.loops.proofs.Loop.{by-pick, both, pick-true, pick-false}
 use Rattle.netlist.specs.Net.{Net, Assign, Obeys}
-use Rattle.netlist.specs.Bit.{isKnown}
-use Rattle.netlist.proofs.BitLaws.{by-known, known-less}
+use Rattle.netlist.specs.Bit.{isKnown, knownOf, byKnown}
+use Rattle.netlist.proofs.BitLaws.{by-known, known-less, least-unknown}
 use Rattle.gates.specs.Made.{MadeBit, kept, gateMatriarch1}
+use Rattle.gates.specs.Fold.{orBit}
 use Rattle.gates.specs.Choice.{trueSide, falseSide, bothSides, choiceBit, muxBit}
 use Rattle.gates.specs.Law.{Grows, BitLaw, In2, Kn2, In3, Kn3}
 use Rattle.gates.proofs.Laws.{grows-refl, grows-added, kept-law, bit-map, join-law}
@@ -125,3 +126,21 @@ mux-law s c t f =
 pub mux-known : (s : Net) (c t f : ℕ) → c < 2 → muxBit s c t f ≡ kept s (pick (eqb c 1) t f)
 unfolding muxBit pick
 mux-known s c t f h = by-known (λ m. m ≡ kept s (pick (eqb c 1) t f)) c _ _ _ (λ e. rw e refl) (λ e. rw e refl) (λ e. absurd (omega arith))
+
+-- a choice of known false or a bit is its false side
+pub clear-side : (s : Net) (c f : ℕ) → choiceBit s c 0 f ≡ falseSide s c f
+unfolding choiceBit bothSides trueSide falseSide orBit isKnown knownOf byKnown pick
+clear-side s c zero = refl
+clear-side s c (suc zero) = refl
+clear-side s c (suc (suc f)) = rw (least-unknown (suc (suc f)) (omega arith))
+
+pub clear-law : (s : Net) (c f : ℕ) → BitLaw s (In2 s c f) (Kn2 c f) (λ e. not (e c) && e f) 1 (muxBit s c 0 f)
+unfolding muxBit
+clear-law s c f =
+    by-known P c _ _ _
+    (λ h. kept-law 1 f (λ e o. simp (h, o .low)) (λ i l. i .1) (λ k. k .1))
+    (λ h. kept-law 1 0 (λ e o. simp (h, o .low, o .high)) (λ i l. omega arith) (λ k. omega arith))
+    (λ h. rw (clear-side s c f) (false-law s c f h))
+  where
+    P : MadeBit → Type 0
+    P m = BitLaw s (In2 s c f) (Kn2 c f) (λ e. not (e c) && e f) 1 m

@@ -21,7 +21,7 @@ use Rattle.gates.specs.Choice.{trueSide, falseSide, bothSides, choiceBit
 use Rattle.gates.specs.Law.{Ext, Grows}
 use Rattle.gates.proofs.Laws.{grows-added}
 use Rattle.gates.proofs.FoldLaws.{not-one}
-use Rattle.gates.proofs.ChoiceLaws.{true-grows, false-grows}
+use Rattle.gates.proofs.ChoiceLaws.{true-grows, false-grows, clear-side}
 
 pub append-path : (g g′ : List ℕ) (at : At) (d : Gate) (b : ℕ) → g′ ≡ put g (at .n) d → b ≡ at .n → madeOf g′ (record { n = at .n + 1 }) b ≡ added (netOf g at) d
 unfolding added
@@ -243,3 +243,11 @@ module _ (s : Net) (m : MadeBit) (k : Known) (c t f : ℕ) (e : k ≡ knownOf c)
   pub mux-unknown : k ≡ Unknown → m ≡ choiceBit s c t f → m ≡ muxBit s c t f
   unfolding muxBit byKnown
   mux-unknown h q = rw (← e, h) q
+
+-- and the choice against known false
+module _ (s : Net) (m : MadeBit) (k : Known) (c f : ℕ) (e : k ≡ knownOf c) where
+  pub clear-true : (r : ℕ) → k ≡ True → r ≡ 0 → kept s r ≡ muxBit s c 0 f
+  clear-true r h q = rw q (mux-true s m k c 0 f e h)
+
+  pub clear-unknown : k ≡ Unknown → m ≡ falseSide s c f → m ≡ muxBit s c 0 f
+  clear-unknown h q = mux-unknown s m k c 0 f e h (q ∙ sym (clear-side s c f))

@@ -87,3 +87,19 @@ pub fn mux_bit(gates: &mut [u32], at: At, c: u32, t: u32, f: u32) -> Made
         Known::Unknown => choice_bit(gates, at, c, t, f),
     }
 }
+
+// Of known false and a bit: where the condition is not known the false side stands alone, since the true side is known false and the Or folds.
+pub fn clear_bit(gates: &mut [u32], at: At, c: u32, f: u32) -> Made
+    requires { ⌜ Fits (now gates) at 1 ⌝ }
+    ensures { λ r. ⌜ madeOf (now (gates .exit)) (r .at) (r .bit) ≡ muxBit (netOf (now (gates .entry)) at) c 0 f ⌝ }
+{
+    let condition = Gate::of(c);
+    match condition {
+        Known::True => Made {
+            bit: Gate::known(false),
+            at,
+        },
+        Known::False => Made { bit: f, at },
+        Known::Unknown => false_side(gates, at, c, f),
+    }
+}

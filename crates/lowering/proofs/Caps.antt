@@ -12,8 +12,10 @@ use Rattle.table.specs.declared.Unit.the-variants.{Bit}
 use Rattle.table.specs.Node.{nodes, nodeAt, widthOf, aOf}
 use Rattle.table.specs.Size.{sizeOf}
 use Rattle.table.specs.Sheet.{tableFault}
-use Rattle.table.specs.Ceiling.{divGates, memoryGates, iteGates, plainGates, ceiling, nodeGates, sumsOf}
+use Rattle.table.specs.Ceiling.{divGates, shiftGates, memoryGates, iteGates, plainGates, ceiling, nodeGates, sumsOf}
 use Rattle.table.proofs.Whole.{within, fine}
+use Rattle.digits.specs.Digits.{powersBelow}
+use Rattle.digits.proofs.Numbers.{powers-few}
 use Rattle.words.proofs.Sums.{sum-most}
 
 -- a product of two small numbers is small
@@ -35,6 +37,10 @@ module _ (n w : ℕ) (few : n ≤ 64) (small : w ≤ 64) where
   unfolding divGates
   div-most v h = omega (arith, times-most (2 * v) v 128 64 (omega arith) h, times-most v (v - 1) 64 63 h (omega arith))
 
+  shift-most : (v : ℕ) → v ≤ 64 → shiftGates v ≤ 20480
+  unfolding shiftGates
+  shift-most v h = omega (arith, times-most (3 * v) (powersBelow v) 192 64 (omega arith) (omega (arith, powers-few v)))
+
   plain-most : (d : Node) (x : ℕ) → d .width ≤ 64 → x ≤ 64 → plainGates n w d x ≤ 20480
   unfolding plainGates iteGates
   plain-most d x h k =
@@ -54,7 +60,9 @@ module _ (n w : ℕ) (few : n ≤ 64) (small : w ≤ 64) where
   top-most : (d : Node) (x : ℕ) → d .width ≤ 64 → x ≤ 64 → ceiling n w d x ≤ 20480
   unfolding ceiling
   top-most d x h k =
-      by-pick (λ y. y ≤ 20480) _ _ _ (λ _. omega (arith, size-most (d .width) h)) (λ _. by-pick (λ y. y ≤ 20480) _ _ _ (λ _. div-most (d .width) h) (λ _. plain-most d x h k))
+      by-pick (λ y. y ≤ 20480) _ _ _ (λ _. omega (arith, size-most (d .width) h))
+      (λ _. by-pick (λ y. y ≤ 20480) _ _ _ (λ _. div-most (d .width) h)
+      (λ _. by-pick (λ y. y ≤ 20480) _ _ _ (λ _. shift-most (d .width) h) (λ _. plain-most d x h k)))
 
 -- and of all
 pub gates-cap : (t l : List ℕ) (w : ℕ) → tableFault t l w ≡ Clear → sumsOf t (length l) w .gates < 4294967296

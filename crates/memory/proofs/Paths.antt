@@ -22,14 +22,16 @@ use Rattle.words.specs.Num.{blank}
 use Rattle.words.specs.Each.{Word, wordOf, eachStep, eachBit, eachCost, putBits}
 use Rattle.words.specs.Eq.{eqWords, eqCost}
 use Rattle.words.proofs.NumLaws.{blank-long}
+use Rattle.words.proofs.EachLaws.{ors-cost, choose-cost}
 use Rattle.words.proofs.EqLaws.{eq-left}
+use Rattle.words.proofs.MulLaws.{row-cost}
 use Rattle.words.proofs.Paths.{each-most}
 use Rattle.memory.specs.Address.{part, listedAt, atListed}
 use Rattle.memory.specs.Read.{cleared, readKnown, readOne, readStep, readWords}
 use Rattle.memory.specs.Write.{writeKnown, writeStep, writeWords}
 use Rattle.memory.proofs.AddressLaws.{digits-known, at-ext}
-use Rattle.memory.proofs.ReadLaws.{ands-cost, ors-cost, put-low, one-ext}
-use Rattle.memory.proofs.WriteLaws.{choose-cost, step-ext}
+use Rattle.memory.proofs.ReadLaws.{put-low, one-ext}
+use Rattle.memory.proofs.WriteLaws.{step-ext}
 
 -- Eq with a listed address
 module _ (w a : ℕ) (adr d : List ℕ) (e : d ≡ putDigits a w blank) where
@@ -72,12 +74,12 @@ each-same op left left′ right s (suc w) h = rw (each-same op left left′ righ
 -- Read at one listed address
 module _ (w a : ℕ) (word adr g g₁ : List ℕ) (n n₁ : At) (b : ℕ) (big : 1 ≤ w) (small : w ≤ 64) (p : madeOf g₁ n₁ b ≡ atListed w a adr (netOf g n)) where
   pub ands-room : n₁ .n + eachCost (AndWith b) word word w ≤ n .n + (4 * w - 1)
-  ands-room = omega (arith, at-most w a adr (netOf g n) g₁ n₁ b big small p, ands-cost b word w)
+  ands-room = omega (arith, at-most w a adr (netOf g n) g₁ n₁ b big small p, row-cost word b w)
 
   module _ (g₂ ands : List ℕ) (n₂ : At) (q : wordOf g₂ n₂ ands ≡ eachBit (AndWith b) word word w (wordOf g₁ n₁ blank)) (out old : List ℕ) (r : old ≡ putBits 0 out w blank) where
     pub ors-room : n₂ .n + eachCost Or old ands w ≤ n .n + (4 * w - 1)
     ors-room =
-        omega (arith, at-most w a adr (netOf g n) g₁ n₁ b big small p, ands-cost b word w, ors-cost old ands w, each-most (AndWith b) word word (wordOf g₁ n₁ blank) g₂ ands n₂ w q)
+        omega (arith, at-most w a adr (netOf g n) g₁ n₁ b big small p, row-cost word b w, ors-cost old ands w, each-most (AndWith b) word word (wordOf g₁ n₁ blank) g₂ ands n₂ w q)
 
     pub read-one-path : (t : Word) → t ≡ eachBit Or old ands w (wordOf g₂ n₂ out) → t ≡ readOne w a word adr (wordOf g n out)
     unfolding readOne

@@ -21,10 +21,10 @@ use Rattle.digits.proofs.Numbers.{number-same}
 use Rattle.digits.proofs.Words.{all-true, all-false}
 use Rattle.words.specs.declared.each.Bitwise.the-variants.{Or, AndWith}
 use Rattle.words.specs.Num.{num, blank}
-use Rattle.words.specs.Each.{bitCost, bitValue, bitBelow, Word, eachBit, eachCost, EachLaw, putBits}
-use Rattle.words.proofs.Sums.{sum-most}
+use Rattle.words.specs.Each.{bitValue, bitBelow, Word, eachBit, eachCost, EachLaw, putBits}
 use Rattle.words.proofs.NumLaws.{num-known, blank-long, blank-at}
-use Rattle.words.proofs.EachLaws.{each-law, each-ext, below-more, put-law}
+use Rattle.words.proofs.MulLaws.{row-cost}
+use Rattle.words.proofs.EachLaws.{ors-cost, each-law, each-ext, below-more, put-law}
 use Rattle.memory.specs.Address.{part, listedAt, atListed, Listed, AtLaw, wordNum}
 use Rattle.memory.specs.Read.{cleared, readKnown, readOne, readStep, readWords, ReadLaw}
 use Rattle.memory.proofs.AddressLaws.{part-at, part-below, found-listed, none-listed, only-listed, at-ext, at-law}
@@ -43,21 +43,12 @@ put-low bits out w h j l = let q : 0 + j ≡ j = omega arith in rw q at (put-law
 cleared-at : (w : ℕ) (out : List ℕ) → w ≤ length out → (j : ℕ) → j < w → getD (cleared w out) j 0 ≡ 0
 cleared-at w out h j l = put-low blank out w h j l ∙ blank-at j
 
--- an And and an Or a place
-pub ands-cost : (c : ℕ) (word : List ℕ) (w : ℕ) → eachCost (AndWith c) word word w ≤ 1 * w
-unfolding bitCost
-ands-cost c word w = sum-most (λ i. 1) 1 w (λ i l. omega arith)
-
-pub ors-cost : (left right : List ℕ) (w : ℕ) → eachCost Or left right w ≤ 1 * w
-unfolding bitCost
-ors-cost left right w = sum-most (λ i. 1) 1 w (λ i l. omega arith)
-
 -- four gates a place less one, at any address
 pub one-ext : (w a : ℕ) (word adr : List ℕ) (s : Word) → 1 ≤ w → w ≤ 64 → Ext (s .net) (readOne w a word adr s .net) (4 * w - 1)
 unfolding readOne
 one-ext w a word adr s big small =
     ext-weaken (s .net) _ (2 * w - 1 + eachCost (AndWith (q .bit)) word word w + eachCost Or (s .out) (x .out) w) (4 * w - 1)
-    (omega (arith, ands-cost (q .bit) word w, ors-cost (s .out) (x .out) w))
+    (omega (arith, row-cost word (q .bit) w, ors-cost (s .out) (x .out) w))
     (ext-trans (s .net) (x .net) _ _ _ (ext-trans (s .net) (q .net) (x .net) _ _ (at-ext w a adr (s .net) big small) (each-ext (AndWith (q .bit)) word word (record { net = q .net; out = blank }) w))
     (each-ext Or (s .out) (x .out) (record { net = x .net; out = s .out }) w))
   where

@@ -20,19 +20,14 @@ use Rattle.digits.specs.Digits.{Below, allKnown, knownNumber}
 use Rattle.digits.proofs.Words.{all-true, all-false}
 use Rattle.words.specs.declared.each.Bitwise.the-variants.{Choose}
 use Rattle.words.specs.Num.{num, blank}
-use Rattle.words.specs.Each.{bitCost, bitValue, bitBelow, Word, eachBit, eachCost, EachLaw, putBits, Put}
-use Rattle.words.proofs.Sums.{sum-most}
+use Rattle.words.specs.Each.{bitValue, bitBelow, Word, eachBit, eachCost, EachLaw, putBits, Put}
 use Rattle.words.proofs.NumLaws.{num-known, num-choose, blank-long}
-use Rattle.words.proofs.EachLaws.{each-law, each-ext, below-more, put-law}
+use Rattle.words.proofs.EachLaws.{choose-cost, each-law, each-ext, below-more, put-law}
 use Rattle.memory.specs.Address.{part, listedAt, atListed, Listed, AtLaw, wordNum}
 use Rattle.memory.specs.Write.{writeKnown, writeStep, writeWords, WriteLaw}
 use Rattle.memory.proofs.AddressLaws.{part-at, word-end, put-other, put-below, found-listed, none-listed, only-listed, at-ext, at-law}
 
 -- a choice a place
-pub choose-cost : (c : ℕ) (t f : List ℕ) (w : ℕ) → eachCost (Choose c) t f w ≤ 3 * w
-unfolding bitCost
-choose-cost c t f w = sum-most (λ i. 3) 3 w (λ i l. omega arith)
-
 -- five gates a place less one, at any address
 pub step-ext : (w : ℕ) (addrs adr val : List ℕ) (i : ℕ) (s : Word) → 1 ≤ w → w ≤ 64 → Ext (s .net) (writeStep w addrs adr val i s .net) (5 * w - 1)
 unfolding writeStep

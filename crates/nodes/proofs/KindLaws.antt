@@ -22,13 +22,15 @@ use Rattle.digits.specs.Digits.{Below, putDigits}
 use Rattle.digits.proofs.Numbers.{digit-lt}
 use Rattle.digits.proofs.Words as digits
 use Rattle.words.specs.declared.each.Bitwise.{Bitwise}
-use Rattle.words.specs.declared.each.Bitwise.the-variants.{Not, And, Choose}
+use Rattle.words.specs.declared.each.Bitwise.the-variants.{Not, Choose}
+use Rattle.words.specs.declared.shift.Direction.{Direction}
 use Rattle.words.specs.Num.{blank}
 use Rattle.words.specs.Each.{Word, bitCost, bitBelow, eachBit, EachLaw, Put}
 use Rattle.words.specs.Add.{addWords, addCost}
 use Rattle.words.specs.Sub.{subWords, subCost, ultWords, widened, SubLaw}
 use Rattle.words.specs.Eq.{eqWords}
 use Rattle.words.specs.Mul.{mulWords, mulCost, MulLaw}
+use Rattle.words.specs.Shift.{shiftWords, shiftCost, ShiftLaw}
 use Rattle.words.proofs.NumLaws.{blank-long, blank-at}
 use Rattle.words.proofs.Sums.{sum-most}
 use Rattle.words.proofs.EachLaws.{each-law, put-law, below-set, below-more}
@@ -36,6 +38,7 @@ use Rattle.words.proofs.AddLaws.{AddLaw, add-law, cost-three}
 use Rattle.words.proofs.SubLaws.{sub-law, sub-four, ult-law}
 use Rattle.words.proofs.EqLaws.{eq-law, eq-three}
 use Rattle.words.proofs.MulLaws.{mul-law}
+use Rattle.words.proofs.ShiftLaws.{shift-law}
 use Rattle.memory.specs.Read.{readWords, ReadLaw}
 use Rattle.nodes.specs.Own.{asIs, fresh, ofChain, ofBit, inputStep}
 use Rattle.nodes.proofs.WordLaws.{WordMade}
@@ -87,9 +90,16 @@ pub not-made : (s : Net) (A : List ℕ) (v : ℕ) → v ≤ 65 → WordMade s (�
 unfolding bitBelow bitCost
 not-made s A v small = each-made Not A A v 1 s small (λ a b. not-cost a)
 
-pub and-made : (s : Net) (A B : List ℕ) (v : ℕ) → v ≤ 65 → WordMade s (λ b. (i : ℕ) → i < v → (getD A i 0 < b) × (getD B i 0 < b)) v (1 * v) (eachBit And A B v (fresh s))
-unfolding bitBelow bitCost
-and-made s A B v small = each-made And A B v 1 s small (λ a b. omega arith)
+-- of two words, with one gate a bit
+pub pair-made : (op : Bitwise) → ((n a b : ℕ) → a < n → b < n → bitBelow op n a b) → ((a b : ℕ) → bitCost op a b ≤ 1) → (s : Net) (A B : List ℕ) (v : ℕ) → v ≤ 65
+    → WordMade s (Both A B v) v (1 * v) (eachBit op A B v (fresh s))
+pair-made op under most s A B v small =
+    let h = each-made op A B v 1 s small most in
+    record {
+      grows = h .grows;
+      formed = λ rm i f. h .formed rm (λ j l. under _ _ _ (i .0 j l) (i .1 j l)) f;
+      known = λ i. h .known (λ j l. under _ _ _ (i .0 j l) (i .1 j l));
+    }
 
 pub choose-made : (s : Net) (c : ℕ) (A B : List ℕ) (v : ℕ) → v ≤ 65
     → WordMade s (λ b. (i : ℕ) → i < v → (c < b) × (getD A i 0 < b) × (getD B i 0 < b)) v (3 * v) (eachBit (Choose c) A B v (fresh s))
@@ -130,6 +140,15 @@ module _ (s : Net) (A B : List ℕ) (v : ℕ) (small : v ≤ 64) where
       let h : SubLaw v A B s blank (subWords v A B s blank) = sub-law v A B s blank (omega arith) (omega (arith, blank-long)) in
       record {
         grows = grows-weaken s _ (subCost A B v) (4 * v) (sub-four A B v) (h .ext .grows);
+        formed = λ rm i f. h .formed rm (i .0) (i .1) f;
+        known = λ i. let q = h .known (i .0) (i .1) in (ap (λ (t : Net). t .n) (q .0), q .1);
+      }
+
+  pub shift-made : (to : Direction) → 1 ≤ v → WordMade s (Both A B v) v (shiftCost v) (shiftWords to v A B (fresh s))
+  shift-made to big =
+      let h : ShiftLaw to v A B (fresh s) (shiftWords to v A B (fresh s)) = shift-law to v A B (fresh s) big small (omega (arith, blank-long)) in
+      record {
+        grows = h .ext .grows;
         formed = λ rm i f. h .formed rm (i .0) (i .1) f;
         known = λ i. let q = h .known (i .0) (i .1) in (ap (λ (t : Net). t .n) (q .0), q .1);
       }

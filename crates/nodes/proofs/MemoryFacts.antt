@@ -2,7 +2,8 @@
 use mathlib.Core.Path.{_≡_, refl, ap, sym, _∙_}
 use mathlib.Core.List.{List, _++_, append-assoc}
 use mathlib.Core.Bool.{true}
-use Prim.Native.Nat.{ℕ, _+_, _*_, _-_, _≤_}
+use mathlib.Core.Logic.{_⊎_, inl, inr}
+use Prim.Native.Nat.{ℕ, _+_, _*_, _-_, _≤_, _<_}
 use native.Mathlib.Omega.{arith}
 use lib.ListN.{length, getD, set, take, drop, length-drop}
 use lib.Seq.{length-take-le, take-all, drop-drop, getD-take, ext-getD, paste, paste-zero, paste-suc}
@@ -11,7 +12,7 @@ use Rattle.loops.proofs.Loop.{iter-inv}
 use Rattle.table.specs.declared.Node.{Node}
 use Rattle.table.specs.Kind.{READ, WRITE, usesA, usesB, usesC}
 use Rattle.table.specs.Node.{widthOf}
-use Rattle.table.proofs.Whole.{within, Sound, Rule, is-const, is-input, is-state, is-not, is-bad, is-and, is-ext, is-eq, is-add, is-ite, is-sub, is-ult, is-mul, is-divu, is-rem, is-read, is-write}
+use Rattle.table.proofs.Whole.{within, Sound, Rule, is-const, is-input, is-state, is-not, is-bad, is-and, is-ext, is-eq, is-add, is-ite, is-sub, is-ult, is-mul, is-divu, is-rem, is-read, is-write, is-or, is-sll, is-srl}
 use Rattle.netlist.specs.Net.{Net}
 use Rattle.gates.specs.declared.made.At.{At}
 use Rattle.gates.specs.Made.{Fits}
@@ -91,27 +92,31 @@ record Access (w : ℕ) (d : Node) (va vb vc : ℕ) : Type 0 where
   reads : d .kind ≡ READ → (d .width ≡ w) × (va ≡ 0) × (vb ≡ w)
   writes : d .kind ≡ WRITE → (d .width ≡ 0) × (va ≡ 0) × (vb ≡ w) × (vc ≡ w)
 
-neither : {w : ℕ} {d : Node} {va vb vc : ℕ} → d .kind ≤ 15 → Access w d va vb vc
-neither l = record { reads = λ h. absurd (omega arith); writes = λ h. absurd (omega arith) }
+neither : {w : ℕ} {d : Node} {va vb vc : ℕ} → (d .kind < READ) ⊎ (WRITE < d .kind) → Access w d va vb vc
+neither (inl l) = record { reads = λ h. absurd (omega arith); writes = λ h. absurd (omega arith) }
+neither (inr l) = record { reads = λ h. absurd (omega arith); writes = λ h. absurd (omega arith) }
 
 access : {w : ℕ} {d : Node} {va vb vc : ℕ} → Rule w d va vb vc → Access w d va vb vc
 access (is-read e a b c) = record { reads = λ _. (a, b, c); writes = λ h. absurd (omega arith) }
 access (is-write e a b c f) = record { reads = λ h. absurd (omega arith); writes = λ _. (a, b, c, f) }
-access (is-const e a b) = neither (omega arith)
-access (is-input e) = neither (omega arith)
-access (is-state e a) = neither (omega arith)
-access (is-not e a b) = neither (omega arith)
-access (is-bad e a b) = neither (omega arith)
-access (is-and e s) = neither (omega arith)
-access (is-ext e a b) = neither (omega arith)
-access (is-eq e s) = neither (omega arith)
-access (is-add e s) = neither (omega arith)
-access (is-ite e a b c) = neither (omega arith)
-access (is-sub e s) = neither (omega arith)
-access (is-ult e s) = neither (omega arith)
-access (is-mul e s) = neither (omega arith)
-access (is-divu e s) = neither (omega arith)
-access (is-rem e s) = neither (omega arith)
+access (is-const e a b) = neither (inl (omega arith))
+access (is-input e) = neither (inl (omega arith))
+access (is-state e a) = neither (inl (omega arith))
+access (is-not e a b) = neither (inl (omega arith))
+access (is-bad e a b) = neither (inl (omega arith))
+access (is-and e s) = neither (inl (omega arith))
+access (is-ext e a b) = neither (inl (omega arith))
+access (is-eq e s) = neither (inl (omega arith))
+access (is-add e s) = neither (inl (omega arith))
+access (is-ite e a b c) = neither (inl (omega arith))
+access (is-sub e s) = neither (inl (omega arith))
+access (is-ult e s) = neither (inl (omega arith))
+access (is-mul e s) = neither (inl (omega arith))
+access (is-or e s) = neither (inr (omega arith))
+access (is-sll e s) = neither (inr (omega arith))
+access (is-srl e s) = neither (inr (omega arith))
+access (is-divu e s) = neither (inl (omega arith))
+access (is-rem e s) = neither (inl (omega arith))
 
 -- what both ask for, over a memory of n words from `mem` on and an address from `adr` on: a word's access costs so many gates a bit, less one
 pub record Accesses (cost : ℕ) (g : List ℕ) (a : At) (long n mem adr : ℕ) (p : Place) : Type 0 where

@@ -11,7 +11,7 @@ use Rattle.loops.proofs.Loop.{pick-true, pick-false}
 use Rattle.table.specs.declared.Node.{Node}
 use Rattle.table.specs.Kind.{ITE, READ, WRITE, divides}
 use Rattle.table.specs.Node.{widthOf, given}
-use Rattle.table.proofs.Whole.{Sound, Rule, is-const, is-input, is-state, is-not, is-bad, is-and, is-ext, is-eq, is-add, is-ite, is-sub, is-ult, is-mul, is-divu, is-rem, is-read, is-write}
+use Rattle.table.proofs.Whole.{Sound, Rule, is-const, is-input, is-state, is-not, is-bad, is-and, is-ext, is-eq, is-add, is-ite, is-sub, is-ult, is-mul, is-divu, is-rem, is-read, is-write, is-or, is-sll, is-srl}
 use Rattle.values.proofs.Seen.{initial}
 use Rattle.netlist.specs.Net.{Net}
 use Rattle.visits.specs.Flow.{Core}
@@ -47,6 +47,9 @@ module _ (S : Source) (k : ℕ) (node : Sound (S .table) (S .word) k) (g : given
   shared (is-sub e v) = clash (sym h ∙ rw e)
   shared (is-ult e v) = clash (sym h ∙ rw e)
   shared (is-mul e v) = clash (sym h ∙ rw e)
+  shared (is-or e v) = clash (sym h ∙ rw e)
+  shared (is-sll e v) = clash (sym h ∙ rw e)
+  shared (is-srl e v) = clash (sym h ∙ rw e)
   shared (is-divu e v) = clash (sym h ∙ rw e)
   shared (is-rem e v) = clash (sym h ∙ rw e)
   shared (is-read e v va vb) = clash (sym h ∙ rw e)

@@ -12,7 +12,7 @@ use Rattle.loops.proofs.Loop.{by-pick, pick-false}
 use Rattle.table.specs.declared.Fault.the-variants.{Clear}
 use Rattle.table.specs.Node.{nodeAt, widthOf, aOf, bOf, cOf}
 use Rattle.table.specs.Sheet.{tableFault}
-use Rattle.table.proofs.Whole.{Sound, Rule, is-const, is-input, is-state, is-not, is-bad, is-and, is-ext, is-eq, is-add, is-ite, is-sub, is-ult, is-mul, is-divu, is-rem, is-read, is-write}
+use Rattle.table.proofs.Whole.{Sound, Rule, is-const, is-input, is-state, is-not, is-bad, is-and, is-ext, is-eq, is-add, is-ite, is-sub, is-ult, is-mul, is-divu, is-rem, is-read, is-write, is-or, is-sll, is-srl}
 use Rattle.gates.proofs.Laws.{grows-refl}
 use Rattle.visits.specs.Flow.{Core}
 use Rattle.visits.specs.Claims.{Is, Step, OwnLaw}
@@ -21,7 +21,7 @@ use Rattle.nodes.specs.Source.{Source, nodeOf, wordsOf, totalOf, gatesOf
 use Rattle.nodes.specs.Own.{eachWord, shareWord, madeBy, ownStep}
 use Rattle.nodes.specs.Recipe.{recipe}
 use Rattle.nodes.proofs.Places.{word-words, sound-of}
-use Rattle.nodes.proofs.StepLaws.{reads-a, one-word, const-word, not-word, and-word, add-word, sub-word, mul-word, eq-word, ult-word}
+use Rattle.nodes.proofs.StepLaws.{reads-a, one-word, const-word, not-word, and-word, add-word, sub-word, mul-word, or-word, sll-word, srl-word, eq-word, ult-word}
 use Rattle.nodes.proofs.ShareLaws.{same-words, input-step, share-step, ite-step}
 use Rattle.nodes.proofs.MemoryLaws.{ReadsOwed, WritesOwed, read-step, write-step}
 use Rattle.nodes.proofs.DivisionLaws.{DividesOwed, KnownOwed, divide-step}
@@ -60,6 +60,9 @@ module _ (S : Source) (clear : tableFault (S .table) (S .addrs) (S .word) ≡ Cl
       made (is-sub e v) = rw e (one-word S clear k is s mapped run goes (v .word) (λ i x t. sub-word S clear k is s mapped run goes i x t v e))
       made (is-ult e v) = rw e (one-word S clear k is s mapped run goes (omega (arith, v .one)) (λ i x t. ult-word S clear k is s mapped run goes i x t v e))
       made (is-mul e v) = rw e (one-word S clear k is s mapped run goes (v .word) (λ i x t. mul-word S clear k is s mapped run goes i x t v e))
+      made (is-or e v) = rw e (one-word S clear k is s mapped run goes (v .word) (λ i x t. or-word S clear k is s mapped run goes i x t v e))
+      made (is-sll e v) = rw e (one-word S clear k is s mapped run goes (v .word) (λ i x t. sll-word S clear k is s mapped run goes i x t v e))
+      made (is-srl e v) = rw e (one-word S clear k is s mapped run goes (v .word) (λ i x t. srl-word S clear k is s mapped run goes i x t v e))
       made (is-divu e v) = rw e (divide-step S clear k is s mapped run goes divided known (rw e) v)
       made (is-rem e v) = rw e (divide-step S clear k is s mapped run goes divided known (rw e) v)
       made (is-read e v va vb) = rw e (read-step S clear k is s mapped run goes reads e v va vb)

@@ -10,24 +10,24 @@ use borrow.Author.Tests.{ne-eqb}
 use Rattle.loops.specs.Loop.{pick, iter}
 use Rattle.loops.proofs.Loop.{iter-inv}
 use Rattle.table.specs.declared.Node.{Node}
-use Rattle.table.specs.Kind.{CONST, NOT, AND, EQ, ADD, SUB, ULT, MUL}
-use Rattle.table.specs.Ceiling.{ceiling}
+use Rattle.table.specs.Kind.{CONST, NOT, AND, EQ, ADD, SUB, ULT, MUL, OR, SLL, SRL}
+use Rattle.table.specs.Ceiling.{shiftGates, ceiling}
 use Rattle.table.proofs.ceiling.ByKind.{top-mul}
 use Rattle.netlist.specs.Net.{Net}
 use Rattle.gates.specs.declared.made.At.{At}
 use Rattle.gates.specs.Made.{MadeBit, netOf, madeOf, added, gateInputBit}
 use Rattle.words.specs.declared.each.Bitwise.the-variants as op
+use Rattle.words.specs.declared.shift.Direction.the-variants.{Left, Right}
 use Rattle.words.specs.Num.{blank}
-use Rattle.words.specs.Each.{Word, wordOf, eachBit, eachCost, bitCost, putBits}
+use Rattle.words.specs.Each.{Word, wordOf, eachBit, putBits}
 use Rattle.digits.specs.Digits.{putDigits}
 use Rattle.words.specs.Add.{Chain, chainOf, addWords}
 use Rattle.words.specs.Sub.{subWords, ultWords}
 use Rattle.words.specs.Eq.{eqWords}
 use Rattle.words.specs.Mul.{mulWords, mulCost}
+use Rattle.words.specs.Shift.{shiftWords, shiftCost}
 use Rattle.words.proofs.NumLaws.{blank-long}
-use Rattle.words.proofs.Sums.{sum-most}
-use Rattle.words.proofs.EachLaws.{each-ext}
-use Rattle.gates.proofs.FoldLaws.{not-cost as one-not}
+use Rattle.words.proofs.EachLaws.{choose-cost, each-ext}
 use Rattle.division.specs.Rows.{Checked, checkedOf}
 use Rattle.division.specs.Divide.{divideWords}
 use Rattle.nodes.specs.Own.{fresh, asIs, ofChain, inputStep, plainWord}
@@ -71,10 +71,6 @@ unfolding shareAt
 share-path from v to w i word map map′ p q = let z : from + i * v + v - (from + i * v) ≡ v = omega arith in q ∙ ap (λ l. putBits (to + i * w) l w map) (rw z at p)
 
 -- choices
-pub choose-cost : (c : ℕ) (left right : List ℕ) (w : ℕ) → eachCost (op.Choose c) left right w ≤ 3 * w
-unfolding bitCost
-choose-cost c left right w = sum-most (λ j. bitCost (op.Choose c) (getD left j 0) (getD right j 0)) 3 w (λ j l. omega arith)
-
 pub choose-word-path : (c a b to w i : ℕ) (g g′ word map map′ : List ℕ) (n n′ : At)
     → wordOf g′ n′ word ≡ eachBit (op.Choose (getD map c 0)) (take (a + i * w + w - (a + i * w)) (drop (a + i * w) map)) (take (b + i * w + w - (b + i * w)) (drop (b + i * w) map)) w (wordOf g n blank)
     → map′ ≡ putBits (to + i * w) word w map → wordOf g′ n′ map′ ≡ placed to w (choices c a b w) i (wordOf g n map)
@@ -100,14 +96,6 @@ bit-path g g′ out n n′ b m e = ap {B = Word} (λ (x : MadeBit). inFront out 
 
 pub chain-path : (g′ out′ : List ℕ) (n′ : At) (c : ℕ) (t : Chain) → chainOf g′ n′ c out′ ≡ t → wordOf g′ n′ out′ ≡ ofChain t
 chain-path g′ out′ n′ c t e = ap {B = Word} (λ (x : Chain). ofChain x) e
-
-pub and-cost : (left right : List ℕ) (w : ℕ) → eachCost op.And left right w ≤ 1 * w
-unfolding bitCost
-and-cost left right w = sum-most (λ j. bitCost op.And (getD left j 0) (getD right j 0)) 1 w (λ j l. omega arith)
-
-pub not-cost : (bits : List ℕ) (w : ℕ) → eachCost op.Not bits bits w ≤ 1 * w
-unfolding bitCost
-not-cost bits w = sum-most (λ j. bitCost op.Not (getD bits j 0) (getD bits j 0)) 1 w (λ j l. one-not (getD bits j 0))
 
 module _ (d : Node) (v : ℕ) (A B : List ℕ) (s : Net) (x : Word) (out : List ℕ) (h : out ≡ blank) where
   pub plain-const : d .kind ≡ CONST → x ≡ asIs s (putDigits (d .imm) (d .width) out) → x ≡ plainWord d v A B s
@@ -142,14 +130,42 @@ module _ (d : Node) (v : ℕ) (A B : List ℕ) (s : Net) (x : Word) (out : List 
   unfolding plainWord pick
   plain-mul e q = rw e (rw h at q)
 
-  pub plain-none : (d .kind ≡ CONST → ⊥) → (d .kind ≡ NOT → ⊥) → (d .kind ≡ AND → ⊥) → (d .kind ≡ EQ → ⊥) → (d .kind ≡ ADD → ⊥) → (d .kind ≡ SUB → ⊥) → (d .kind ≡ ULT → ⊥)
-      → (d .kind ≡ MUL → ⊥) → x ≡ asIs s out → x ≡ plainWord d v A B s
+  pub plain-or : d .kind ≡ OR → x ≡ eachBit op.Or A B v (asIs s out) → x ≡ plainWord d v A B s
   unfolding plainWord pick
-  plain-none e1 e2 e3 e4 e5 e6 e7 e8 q =
-      rw (ne-eqb _ _ e1, ne-eqb _ _ e2, ne-eqb _ _ e3, ne-eqb _ _ e4, ne-eqb _ _ e5, ne-eqb _ _ e6, ne-eqb _ _ e7, ne-eqb _ _ e8) (rw h at q)
+  plain-or e q = rw e (rw h at q)
+
+  pub plain-sll : d .kind ≡ SLL → x ≡ shiftWords Left v A B (asIs s out) → x ≡ plainWord d v A B s
+  unfolding plainWord pick
+  plain-sll e q = rw e (rw h at q)
+
+  pub plain-srl : d .kind ≡ SRL → x ≡ shiftWords Right v A B (asIs s out) → x ≡ plainWord d v A B s
+  unfolding plainWord pick
+  plain-srl e q = rw e (rw h at q)
+
+  pub plain-none : (d .kind ≡ CONST → ⊥) → (d .kind ≡ NOT → ⊥) → (d .kind ≡ AND → ⊥) → (d .kind ≡ EQ → ⊥) → (d .kind ≡ ADD → ⊥) → (d .kind ≡ SUB → ⊥) → (d .kind ≡ ULT → ⊥)
+      → (d .kind ≡ MUL → ⊥) → (d .kind ≡ OR → ⊥) → (d .kind ≡ SLL → ⊥) → (d .kind ≡ SRL → ⊥) → x ≡ asIs s out → x ≡ plainWord d v A B s
+  unfolding plainWord pick
+  plain-none e1 e2 e3 e4 e5 e6 e7 e8 e9 e10 e11 q =
+      rw (
+        ne-eqb _ _ e1,
+        ne-eqb _ _ e2,
+        ne-eqb _ _ e3,
+        ne-eqb _ _ e4,
+        ne-eqb _ _ e5,
+        ne-eqb _ _ e6,
+        ne-eqb _ _ e7,
+        ne-eqb _ _ e8,
+        ne-eqb _ _ e9,
+        ne-eqb _ _ e10,
+        ne-eqb _ _ e11,
+      ) (rw h at q)
 
 pub plain-mul-room : (d : Node) (v : ℕ) → d .kind ≡ MUL → d .width ≡ v → ceiling 0 0 d v ≡ mulCost v
 plain-mul-room d v e h = top-mul 0 0 d v e ∙ rw h (mul-assoc 2 v (v + 1))
+
+pub plain-shift-room : (d : Node) (v : ℕ) → ceiling 0 0 d v ≡ shiftGates (d .width) → d .width ≡ v → ceiling 0 0 d v ≡ shiftCost v
+unfolding shiftGates
+plain-shift-room d v e h = e ∙ ap shiftCost h
 
 pub plain-path : (d : Node) (v a b to : ℕ) (g g′ word map map′ : List ℕ) (n n′ : At)
     → wordOf g′ n′ word ≡ plainWord d v (take (a + v - a) (drop a map)) (take (b + v - b) (drop b map)) (netOf g n)

@@ -11,7 +11,7 @@ use borrow.Author.Tests.{eq-eqb}
 use Rattle.loops.proofs.Loop.{by-pick}
 use Rattle.table.specs.Kind.{STATE, ITE, divides}
 use Rattle.table.specs.Node.{widthOf, given}
-use Rattle.table.proofs.Whole.{Rule, is-const, is-input, is-state, is-not, is-bad, is-and, is-ext, is-eq, is-add, is-ite, is-sub, is-ult, is-mul, is-divu, is-rem, is-read, is-write}
+use Rattle.table.proofs.Whole.{Rule, is-const, is-input, is-state, is-not, is-bad, is-and, is-ext, is-eq, is-add, is-ite, is-sub, is-ult, is-mul, is-divu, is-rem, is-read, is-write, is-or, is-sll, is-srl}
 use Rattle.values.proofs.Seen.{initial}
 use Rattle.netlist.specs.Bit.{isKnown}
 use Rattle.words.specs.Each.{Word}
@@ -27,7 +27,7 @@ use Rattle.nodes.proofs.Places.{sound-of}
 use Rattle.nodes.proofs.OwnKinds.{by-input, by-share, by-ite, by-divide, by-read, by-write, by-word}
 use Rattle.nodes.proofs.Meaning.{Evaluated}
 use Rattle.nodes.proofs.RightWords.{OwnWord, words-right}
-use Rattle.nodes.proofs.RightPlain.{const-made, not-made, and-made, eq-made, add-made, sub-made, ult-made, mul-made}
+use Rattle.nodes.proofs.RightPlain.{const-made, not-made, and-made, eq-made, add-made, sub-made, ult-made, mul-made, or-made, sll-made, srl-made}
 use Rattle.nodes.proofs.RightInput.{input-made}
 use Rattle.nodes.proofs.RightShare.{state-made, bad-made, ext-made}
 use Rattle.nodes.proofs.RightChoice.{known-made, choose-made}
@@ -76,6 +76,9 @@ module _ {S : Source} {x : List ℕ} (v : Evaluated S x) (reads : ReadsOwed S) (
   by-rule (is-sub e z) = each (wordOwn S k) (by-word S k s (record { given = rw e; shares = rw e; chooses = rw e; divides = rw e; reads = rw e; writes = rw e })) (ap divides e) (λ i t lt. sub-made v (ready .is) (s .map) i t lt e z)
   by-rule (is-ult e z) = each (wordOwn S k) (by-word S k s (record { given = rw e; shares = rw e; chooses = rw e; divides = rw e; reads = rw e; writes = rw e })) (ap divides e) (λ i t lt. ult-made v (ready .is) (s .map) i t lt e z)
   by-rule (is-mul e z) = each (wordOwn S k) (by-word S k s (record { given = rw e; shares = rw e; chooses = rw e; divides = rw e; reads = rw e; writes = rw e })) (ap divides e) (λ i t lt. mul-made v (ready .is) (s .map) i t lt e z)
+  by-rule (is-or e z) = each (wordOwn S k) (by-word S k s (record { given = rw e; shares = rw e; chooses = rw e; divides = rw e; reads = rw e; writes = rw e })) (ap divides e) (λ i t lt. or-made v (ready .is) (s .map) i t lt e z)
+  by-rule (is-sll e z) = each (wordOwn S k) (by-word S k s (record { given = rw e; shares = rw e; chooses = rw e; divides = rw e; reads = rw e; writes = rw e })) (ap divides e) (λ i t lt. sll-made v (ready .is) (s .map) i t lt e z)
+  by-rule (is-srl e z) = each (wordOwn S k) (by-word S k s (record { given = rw e; shares = rw e; chooses = rw e; divides = rw e; reads = rw e; writes = rw e })) (ap divides e) (λ i t lt. srl-made v (ready .is) (s .map) i t lt e z)
   by-rule (is-divu e z) = rw (by-divide S k s (ap divides e)) (division-right v gates numbers (ap divides e) z s ready goes)
   by-rule (is-rem e z) = rw (by-divide S k s (ap divides e)) (division-right v gates numbers (ap divides e) z s ready goes)
   by-rule (is-read e h p q) = each (readWord S k) (by-read S k s e) (ap divides e) (λ i t lt. read-made v (ready .is) reads e h p q (s .map) i t lt)

@@ -1,40 +1,45 @@
--- The law of values of the kinds that make one word of one or two: const, not, and, eq, add, sub, ult, mul.
+-- The law of values of the kinds that make one word of one or two: const, not, and, eq, add, sub, ult, mul, or, sll, srl.
 use mathlib.Core.Path.{_≡_, refl, ap, ap₂, sym, _∙_}
 use mathlib.Core.List.{List}
-use mathlib.Core.Bool.{true, false, not, _&&_}
+use mathlib.Core.Bool.{Bool, true, false, not, _&&_, _||_}
 use Prim.Native.Nat.{ℕ, zero, suc, _+_, _-_, _*_, _/_, _%_, _^_, _≤_, _<_}
 use native.Mathlib.Omega.{arith}
-use native.Mathlib.Nat.{mod-eq-of-lt, lt-of-le-of-lt}
-use lib.Bits.{bitAnd, and-le-l, and-shr, and-mod}
+use native.Mathlib.Nat.{mod-eq-of-lt}
+use lib.Bits.{bitAnd, bitOr, and-shr, and-mod, and-lt, or-shr, or-mod, or-lt}
 use lib.Dec.{eqb, ltb}
 use lib.ListN.{getD, set}
 use lib.Seq.{getD-set-same}
 use Rattle.loops.specs.Loop.{pick, bit}
 use Rattle.table.specs.declared.Node.{Node}
-use Rattle.table.specs.Kind.{CONST, ITE, NOT, AND, EQ, ADD, SUB, ULT, MUL, usesA, usesB}
+use Rattle.table.specs.Kind.{CONST, ITE, NOT, AND, EQ, ADD, SUB, ULT, MUL, OR, SLL, SRL, usesA, usesB}
 use Rattle.table.specs.Node.{widthOf, given}
 use Rattle.table.proofs.Whole.{Even, Compared}
-use Rattle.values.specs.Value.{notWord, addWord, subWord, mulWord}
-use Rattle.values.proofs.ByKind.{at-const, at-not, at-and, at-eq, at-add, at-sub, at-ult, at-mul}
+use Rattle.values.specs.Value.{notWord, addWord, subWord, mulWord, sllWord, srlWord}
+use Rattle.values.proofs.ByKind.{at-const, at-not, at-and, at-eq, at-add, at-sub, at-ult, at-mul, at-or, at-sll, at-srl}
 use Rattle.netlist.specs.Net.{Assign, Obeys}
 use Rattle.gates.specs.Law.{Ext}
 use Rattle.gates.proofs.Laws.{ext-refl}
 use Rattle.digits.specs.Digits.{digit, putDigits}
 use Rattle.digits.proofs.Numbers.{digit-lt}
 use Rattle.digits.proofs.Words as digits
+use Rattle.words.specs.declared.each.Bitwise.{Bitwise}
 use Rattle.words.specs.declared.each.Bitwise.the-variants as op
+use Rattle.words.specs.declared.shift.Direction.{Direction}
+use Rattle.words.specs.declared.shift.Direction.the-variants.{Left, Right}
 use Rattle.words.specs.Num.{num, blank}
 use Rattle.words.specs.Each.{Word, bitValue, eachBit, eachCost, EachLaw}
 use Rattle.words.specs.Add.{addWords, addCost}
 use Rattle.words.specs.Sub.{subWords, subCost, ultWords}
 use Rattle.words.specs.Eq.{eqWords, eqCost}
 use Rattle.words.specs.Mul.{mulWords, mulCost}
+use Rattle.words.specs.Shift.{shiftWords, shiftCost, shifted}
 use Rattle.words.proofs.NumLaws.{num-lt, num-not, num-digits, right-num, num-right, blank-long}
 use Rattle.words.proofs.EachLaws.{each-law}
 use Rattle.words.proofs.AddLaws.{add-law, add-value}
 use Rattle.words.proofs.SubLaws.{sub-law, sub-value, ult-law}
 use Rattle.words.proofs.EqLaws.{eq-law}
 use Rattle.words.proofs.MulLaws.{mul-law}
+use Rattle.words.proofs.ShiftLaws.{shift-law}
 use Rattle.visits.specs.Flow.{Core}
 use Rattle.visits.specs.Claims.{Is}
 use Rattle.nodes.specs.Source.{Source, nodeOf, wordsOf, wideOf, wordAt}
@@ -58,7 +63,7 @@ not-says : (e : Assign) (out A : List ℕ) (w : ℕ) → ((i : ℕ) → i < w �
 unfolding notWord
 not-says e out A w h = rw (mod-eq-of-lt (num-lt e A w)) (omega (arith, num-not e out A w h))
 
--- And is the numbers' And, digit by digit
+-- And and Or are the numbers' And and Or, digit by digit
 and-below : (p q : ℕ) → p < 2 → q < 2 → (eqb p 1 && eqb q 1) ≡ eqb (bitAnd p q) 1
 and-below zero zero h g = refl
 and-below zero (suc zero) h g = refl
@@ -68,18 +73,41 @@ and-below (suc (suc p)) q h g = absurd (omega arith)
 and-below zero (suc (suc q)) h g = absurd (omega arith)
 and-below (suc zero) (suc (suc q)) h g = absurd (omega arith)
 
-and-digit : (p q j : ℕ) → (isOne p j && isOne q j) ≡ isOne (bitAnd p q) j
-unfolding digit
-and-digit p q j =
-    let a : bitAnd p q / 2 ^ j % 2 ≡ bitAnd (p / 2 ^ j % 2) (q / 2 ^ j % 2) = ap (λ n. n % 2) (and-shr p q j) ∙ and-mod (p / 2 ^ j) (q / 2 ^ j) 1 in
-    and-below (p / 2 ^ j % 2) (q / 2 ^ j % 2) (digit-lt p j) (digit-lt q j) ∙ ap (λ n. eqb n 1) (sym a)
+or-below : (p q : ℕ) → p < 2 → q < 2 → (eqb p 1 || eqb q 1) ≡ eqb (bitOr p q) 1
+or-below zero zero h g = refl
+or-below zero (suc zero) h g = refl
+or-below (suc zero) zero h g = refl
+or-below (suc zero) (suc zero) h g = refl
+or-below (suc (suc p)) q h g = absurd (omega arith)
+or-below zero (suc (suc q)) h g = absurd (omega arith)
+or-below (suc zero) (suc (suc q)) h g = absurd (omega arith)
 
-and-says : (e : Assign) (out A B : List ℕ) (w : ℕ) → ((i : ℕ) → i < w → e (getD out i 0) ≡ (e (getD A i 0) && e (getD B i 0))) → num e out w ≡ bitAnd (num e A w) (num e B w)
-and-says e out A B w h =
-    right-num e out w (bitAnd (num e A w) (num e B w)) (lt-of-le-of-lt (and-le-l (num e A w) (num e B w)) (num-lt e A w))
-    (λ j l. h j l
-    ∙ (ap₂ _&&_ (num-right e A w (num e A w) (num-lt e A w) refl j l) (num-right e B w (num e B w) (num-lt e B w) refl j l)
-    ∙ and-digit (num e A w) (num e B w) j))
+-- what a number operation f owes to be g at each digit
+record Digitwise (g : Bool → Bool → Bool) (f : ℕ → ℕ → ℕ) : Type 0 where
+  below : (p q : ℕ) → p < 2 → q < 2 → g (eqb p 1) (eqb q 1) ≡ eqb (f p q) 1
+  shr : (p q j : ℕ) → f p q / 2 ^ j ≡ f (p / 2 ^ j) (q / 2 ^ j)
+  rest : (p q j : ℕ) → f p q % 2 ^ j ≡ f (p % 2 ^ j) (q % 2 ^ j)
+  less : (j p q : ℕ) → p < 2 ^ j → q < 2 ^ j → f p q < 2 ^ j
+
+and-digits : Digitwise _&&_ bitAnd
+and-digits = record { below = and-below; shr = and-shr; rest = and-mod; less = and-lt }
+
+or-digits : Digitwise _||_ bitOr
+or-digits = record { below = or-below; shr = or-shr; rest = or-mod; less = or-lt }
+
+module _ {g : Bool → Bool → Bool} {f : ℕ → ℕ → ℕ} (law : Digitwise g f) where
+  each-digit : (p q j : ℕ) → g (isOne p j) (isOne q j) ≡ isOne (f p q) j
+  unfolding digit
+  each-digit p q j =
+      let a : f p q / 2 ^ j % 2 ≡ f (p / 2 ^ j % 2) (q / 2 ^ j % 2) = ap (λ n. n % 2) (law .shr p q j) ∙ law .rest (p / 2 ^ j) (q / 2 ^ j) 1 in
+      law .below (p / 2 ^ j % 2) (q / 2 ^ j % 2) (digit-lt p j) (digit-lt q j) ∙ ap (λ n. eqb n 1) (sym a)
+
+  digits-say : (e : Assign) (out A B : List ℕ) (w : ℕ) → ((i : ℕ) → i < w → e (getD out i 0) ≡ g (e (getD A i 0)) (e (getD B i 0))) → num e out w ≡ f (num e A w) (num e B w)
+  digits-say e out A B w h =
+      right-num e out w (f (num e A w) (num e B w)) (law .less w (num e A w) (num e B w) (num-lt e A w) (num-lt e B w))
+      (λ j l. h j l
+      ∙ (ap₂ g (num-right e A w (num e A w) (num-lt e A w) refl j l) (num-right e B w (num e B w) (num-lt e B w) refl j l)
+      ∙ each-digit (num e A w) (num e B w) j))
 
 sub-same : (w p q : ℕ) → q < 2 ^ w → (p + 2 ^ w - q) % 2 ^ w ≡ subWord w p q
 unfolding subWord
@@ -163,14 +191,50 @@ module _ {S : Source} {x : List ℕ} (v : Evaluated S x) {k : ℕ} (is : Is (rec
       (λ a o. rw (wide-own same, width-own h same) (not-says a (eachBit op.Not A A w (fresh (t .net)) .out) A w (L .value a o)))
       (at-not (S .addrs) d x oa ob oc _ i e))
 
+  -- bit by bit, of two words of one width
+  pair-made : (o : Bitwise) (f : ℕ → ℕ → ℕ) → usesA (d .kind) ≡ true → usesB (d .kind) ≡ true → (d .kind ≡ ITE → ⊥) → given d ≡ false
+      → Even (d .width) (widthOf (S .table) (d .a)) (widthOf (S .table) (d .b))
+      → ((e : Assign) (out : List ℕ) → ((j : ℕ) → j < w → e (getD out j 0) ≡ bitValue o e (getD A j 0) (getD B j 0)) → num e out w ≡ f (num e A w) (num e B w))
+      → workedOut S x k i ≡ f (getD x oa 0) (getD x ob 0) → Made (eachBit o A B w (fresh (t .net)))
+  pair-made o f ua ub ni g z says at =
+      let L : EachLaw o A B (fresh (t .net)) w (eachBit o A B w (fresh (t .net))) = each-law o A B (fresh (t .net)) w (omega (arith, blank-long, w-small)) in
+      two (eachBit o A B w (fresh (t .net))) (eachCost o A B w) f ua ub ni g (omega (arith, z .word, z .left)) (z .right ∙ sym (z .left)) (L .ext)
+      (λ a h. rw (wide-own (z .left)) (says a (eachBit o A B w (fresh (t .net)) .out) (L .value a h)))
+      at
+
   pub and-made : d .kind ≡ AND → Even (d .width) (widthOf (S .table) (d .a)) (widthOf (S .table) (d .b)) → Made (wordOwn S k i t)
   unfolding wordOwn plainWord pick bitValue
   and-made e z =
-      let L : EachLaw op.And A B (fresh (t .net)) w (eachBit op.And A B w (fresh (t .net))) = each-law op.And A B (fresh (t .net)) w (omega (arith, blank-long, w-small)) in
       rw e
-      (two (eachBit op.And A B w (fresh (t .net))) (eachCost op.And A B w) bitAnd (ap usesA e) (ap usesB e) (λ q. omega arith) (rw e) (omega (arith, z .word, z .left)) (z .right ∙ sym (z .left)) (L .ext)
-      (λ a o. rw (wide-own (z .left)) (and-says a (eachBit op.And A B w (fresh (t .net)) .out) A B w (L .value a o)))
+      (pair-made op.And bitAnd (ap usesA e) (ap usesB e) (λ q. omega arith) (rw e) z (λ a out. digits-say and-digits a out A B w)
       (at-and (S .addrs) d x oa ob oc _ i e))
+
+  pub or-made : d .kind ≡ OR → Even (d .width) (widthOf (S .table) (d .a)) (widthOf (S .table) (d .b)) → Made (wordOwn S k i t)
+  unfolding wordOwn plainWord pick bitValue
+  or-made e z =
+      rw e
+      (pair-made op.Or bitOr (ap usesA e) (ap usesB e) (λ q. omega arith) (rw e) z (λ a out. digits-say or-digits a out A B w)
+      (at-or (S .addrs) d x oa ob oc _ i e))
+
+  -- a shift, either way
+  shift-made : (to : Direction) (f : ℕ → ℕ → ℕ → ℕ) → usesA (d .kind) ≡ true → usesB (d .kind) ≡ true → (d .kind ≡ ITE → ⊥) → given d ≡ false
+      → Even (d .width) (widthOf (S .table) (d .a)) (widthOf (S .table) (d .b)) → ((v p q : ℕ) → pick (ltb q v) (shifted to v q p) 0 ≡ f v p q)
+      → workedOut S x k i ≡ f (d .width) (getD x oa 0) (getD x ob 0) → Made (shiftWords to w A B (fresh (t .net)))
+  shift-made to f ua ub ni g z same at =
+      let L = shift-law to w A B (fresh (t .net)) (wide-range S (v .clear) (d .a) .0) w-small (omega (arith, blank-long, w-small)) in
+      two (shiftWords to w A B (fresh (t .net))) (shiftCost w) (f (d .width)) ua ub ni g (omega (arith, z .word, z .left)) (z .right ∙ sym (z .left)) (L .ext)
+      (λ a h. rw (wide-own (z .left), width-own (z .word) (z .left)) (L .value a h ∙ same w (num a A w) (num a B w)))
+      at
+
+  pub sll-made : d .kind ≡ SLL → Even (d .width) (widthOf (S .table) (d .a)) (widthOf (S .table) (d .b)) → Made (wordOwn S k i t)
+  unfolding wordOwn plainWord pick shifted sllWord
+  sll-made e z =
+      rw e (shift-made Left sllWord (ap usesA e) (ap usesB e) (λ q. omega arith) (rw e) z (λ v p q. refl) (at-sll (S .addrs) d x oa ob oc _ i e))
+
+  pub srl-made : d .kind ≡ SRL → Even (d .width) (widthOf (S .table) (d .a)) (widthOf (S .table) (d .b)) → Made (wordOwn S k i t)
+  unfolding wordOwn plainWord pick shifted srlWord
+  srl-made e z =
+      rw e (shift-made Right srlWord (ap usesA e) (ap usesB e) (λ q. omega arith) (rw e) z (λ v p q. refl) (at-srl (S .addrs) d x oa ob oc _ i e))
 
   pub add-made : d .kind ≡ ADD → Even (d .width) (widthOf (S .table) (d .a)) (widthOf (S .table) (d .b)) → Made (wordOwn S k i t)
   unfolding wordOwn plainWord pick addWord

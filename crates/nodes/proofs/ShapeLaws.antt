@@ -14,7 +14,7 @@ use Rattle.table.specs.declared.Fault.the-variants.{Clear}
 use Rattle.table.specs.Kind.{ITE, DIVU, REM, divides, usesB}
 use Rattle.table.specs.Node.{widthOf}
 use Rattle.table.specs.Sheet.{tableFault}
-use Rattle.table.proofs.Whole.{Sound, Rule, Even, is-const, is-input, is-state, is-not, is-bad, is-and, is-ext, is-eq, is-add, is-ite, is-sub, is-ult, is-mul, is-divu, is-rem, is-read, is-write}
+use Rattle.table.proofs.Whole.{Sound, Rule, Even, is-const, is-input, is-state, is-not, is-bad, is-and, is-ext, is-eq, is-add, is-ite, is-sub, is-ult, is-mul, is-divu, is-rem, is-read, is-write, is-or, is-sll, is-srl}
 use Rattle.netlist.specs.Bit.{isKnown}
 use Rattle.digits.specs.Digits.{allKnown, knownBits, knownNumber}
 use Rattle.digits.proofs.Numbers.{number-same}
@@ -52,6 +52,9 @@ divided (is-ite e a b c) h = absurd (false≢true (rw e at h))
 divided (is-sub e s) h = s
 divided (is-ult e s) h = absurd (false≢true (rw e at h))
 divided (is-mul e s) h = s
+divided (is-or e s) h = s
+divided (is-sll e s) h = s
+divided (is-srl e s) h = s
 divided (is-divu e s) h = s
 divided (is-rem e s) h = s
 divided (is-read e a b c) h = absurd (false≢true (rw e at h))
@@ -75,6 +78,9 @@ chosen (is-add e s) h = absurd (omega arith)
 chosen (is-sub e s) h = absurd (omega arith)
 chosen (is-ult e s) h = absurd (omega arith)
 chosen (is-mul e s) h = absurd (omega arith)
+chosen (is-or e s) h = absurd (omega arith)
+chosen (is-sll e s) h = absurd (omega arith)
+chosen (is-srl e s) h = absurd (omega arith)
 chosen (is-divu e s) h = absurd (omega arith)
 chosen (is-rem e s) h = absurd (omega arith)
 chosen (is-read e a b c) h = absurd (omega arith)

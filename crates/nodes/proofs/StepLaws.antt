@@ -10,24 +10,30 @@ use borrow.Author.Tests.{eqb-true, le-leb, leb-true}
 use Rattle.loops.specs.Loop.{pick}
 use Rattle.loops.proofs.Loop.{by-pick, either}
 use Rattle.table.specs.declared.Fault.the-variants.{Clear}
-use Rattle.table.specs.Kind.{CONST, NOT, AND, EQ, ADD, ITE, SUB, ULT, MUL, usesA, usesB, usesC}
+use Rattle.table.specs.Kind.{CONST, NOT, AND, EQ, ADD, ITE, SUB, ULT, MUL, OR, SLL, SRL, usesA, usesB, usesC}
 use Rattle.table.specs.Node.{widthOf}
+use Rattle.table.specs.Ceiling.{shiftGates}
 use Rattle.table.specs.Sheet.{tableFault}
 use Rattle.table.proofs.Whole.{Sound, Even, Compared, within, fine}
-use Rattle.table.proofs.ceiling.ByKind.{top-not, top-and, top-eq, top-add, top-sub, top-ult, top-mul}
+use Rattle.table.proofs.ceiling.ByKind.{top-not, top-and, top-eq, top-add, top-sub, top-ult, top-mul, top-or, top-sll, top-srl}
 use Rattle.digits.specs.Digits.{Below}
 use Rattle.netlist.specs.Net.{Net}
 use Rattle.gates.proofs.Laws.{grows-weaken}
-use Rattle.words.specs.Each.{Word}
+use Rattle.words.specs.declared.each.Bitwise.{Bitwise}
+use Rattle.words.specs.declared.each.Bitwise.the-variants.{And, Or}
+use Rattle.words.specs.declared.shift.Direction.{Direction}
+use Rattle.words.specs.declared.shift.Direction.the-variants.{Left, Right}
+use Rattle.words.specs.Each.{Word, bitBelow, bitCost, eachBit}
+use Rattle.words.specs.Shift.{shiftWords, shiftCost}
 use Rattle.visits.specs.Flow.{Core}
 use Rattle.visits.specs.Claims.{Is, Under, Step}
 use Rattle.nodes.specs.Source.{Source, nodeOf, wordsOf, wideOf, offOf, totalOf, gatesOf, blockedOf, wordAt}
-use Rattle.nodes.specs.Own.{eachWord, plainWord, wordOwn}
+use Rattle.nodes.specs.Own.{fresh, eachWord, plainWord, wordOwn}
 use Rattle.nodes.specs.Recipe.{recipe}
 use Rattle.nodes.proofs.Places.{Till, bits-words, off-inside, word-words, word-wide, sound-of, gates-of, word-below}
 use Rattle.nodes.proofs.ShapeLaws.{second-else, third-else}
 use Rattle.nodes.proofs.WordLaws.{WordMade, WordOwes, Reads, made-owes, each-step}
-use Rattle.nodes.proofs.KindLaws.{Both, Nothing, const-made, not-made, and-made, eq-made, ult-made, add-made, sub-made, mul-made}
+use Rattle.nodes.proofs.KindLaws.{Both, Nothing, const-made, not-made, pair-made, shift-made, eq-made, ult-made, add-made, sub-made, mul-made}
 
 -- a word's width and its gates said otherwise
 pub made-as : {s : Net} {In : ℕ → Type 0} {y : Word} {v w c d : ℕ} → v ≡ w → c ≤ d → WordMade s In v c y → WordMade s In w d y
@@ -156,14 +162,41 @@ module _ (S : Source) (clear : tableFault (S .table) (S .addrs) (S .word) ≡ Cl
       wide-here : Wide ≡ nodeOf S k .width
       wide-here = word-wide S A (omega (arith, v .word, v .left)) ∙ v .left
 
+      -- bit by bit
+      pair-owes : (op : Bitwise) → ((n a b : ℕ) → a < n → b < n → bitBelow op n a b) → ((a b : ℕ) → bitCost op a b ≤ 1) → gatesOf S k ≡ nodeOf S k .width → usesB (nodeOf S k .kind) ≡ true
+          → (nodeOf S k .kind ≡ ITE → ⊥) → WordOwes S k s x (gatesOf S k) (eachBit op X Y Wide (fresh (x .net)))
+      pair-owes op under most g u ne =
+          made-owes {s = s} {In = Both X Y Wide} (made-as (even-wide v) (omega (arith, wide-here)) (pair-made op under most (x .net) X Y Wide (omega (arith, wide-small S clear A))))
+          (λ b o. even-both b u ne o)
+
+      shift-owes : (to : Direction) → gatesOf S k ≡ shiftGates (nodeOf S k .width) → usesB (nodeOf S k .kind) ≡ true → (nodeOf S k .kind ≡ ITE → ⊥)
+          → WordOwes S k s x (gatesOf S k) (shiftWords to Wide X Y (fresh (x .net)))
+      unfolding shiftGates
+      shift-owes to g u ne =
+          let c : shiftCost Wide ≡ shiftCost (nodeOf S k .width) = ap shiftCost wide-here in
+          made-owes {s = s} {In = Both X Y Wide}
+          (made-as (even-wide v) (omega arith) (shift-made (x .net) X Y Wide (wide-small S clear A) to (omega (arith, wide-here, v .word))))
+          (λ b o. even-both b u ne o)
+
       pub and-word : nodeOf S k .kind ≡ AND → Owes
-      unfolding wordOwn plainWord pick
+      unfolding wordOwn plainWord pick bitBelow bitCost
       and-word e =
           let g : gatesOf S k ≡ nodeOf S k .width = gates-of S k (is .low) ∙ top-and _ _ (nodeOf S k) _ e in
-          rw e
-          (made-owes {s = s} {In = λ b. (i : ℕ) → i < Wide → (getD X i 0 < b) × (getD Y i 0 < b)}
-          (made-as (even-wide v) (omega (arith, wide-here)) (and-made (x .net) X Y Wide (omega (arith, wide-small S clear A))))
-          (λ b o. let q : Both X Y Wide b = even-both b (rw e) (λ z. omega arith) o in λ i l. (q .0 i l, q .1 i l)))
+          rw e (pair-owes And (λ n a b p q. (p, q)) (λ a b. omega arith) g (rw e) (λ z. omega arith))
+
+      pub or-word : nodeOf S k .kind ≡ OR → Owes
+      unfolding wordOwn plainWord pick bitBelow bitCost
+      or-word e =
+          let g : gatesOf S k ≡ nodeOf S k .width = gates-of S k (is .low) ∙ top-or _ _ (nodeOf S k) _ e in
+          rw e (pair-owes Or (λ n a b p q. (p, q)) (λ a b. omega arith) g (rw e) (λ z. omega arith))
+
+      pub sll-word : nodeOf S k .kind ≡ SLL → Owes
+      unfolding wordOwn plainWord pick
+      sll-word e = rw e (shift-owes Left (gates-of S k (is .low) ∙ top-sll _ _ (nodeOf S k) _ e) (rw e) (λ z. omega arith))
+
+      pub srl-word : nodeOf S k .kind ≡ SRL → Owes
+      unfolding wordOwn plainWord pick
+      srl-word e = rw e (shift-owes Right (gates-of S k (is .low) ∙ top-srl _ _ (nodeOf S k) _ e) (rw e) (λ z. omega arith))
 
       pub add-word : nodeOf S k .kind ≡ ADD → Owes
       unfolding wordOwn plainWord pick

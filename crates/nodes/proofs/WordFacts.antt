@@ -13,8 +13,8 @@ use Rattle.table.specs.declared.Node.{Node}
 use Rattle.table.specs.Kind.{CONST, NOT, usesA, usesB, compares}
 use Rattle.table.specs.Node.{nodes, widthOf}
 use Rattle.table.specs.Ceiling.{ceiling}
-use Rattle.table.proofs.Whole.{Sound, Rule, is-const, is-input, is-state, is-not, is-bad, is-and, is-ext, is-eq, is-add, is-ite, is-sub, is-ult, is-mul, is-divu, is-rem, is-read, is-write}
-use Rattle.table.proofs.ceiling.ByKind.{top-not, top-and, top-eq, top-add, top-sub, top-ult, top-mul}
+use Rattle.table.proofs.Whole.{Sound, Rule, is-const, is-input, is-state, is-not, is-bad, is-and, is-ext, is-eq, is-add, is-ite, is-sub, is-ult, is-mul, is-divu, is-rem, is-read, is-write, is-or, is-sll, is-srl}
+use Rattle.table.proofs.ceiling.ByKind.{top-not, top-and, top-eq, top-add, top-sub, top-ult, top-mul, top-or, top-sll, top-srl}
 use Rattle.netlist.specs.Net.{Net}
 use Rattle.gates.specs.declared.made.At.{At}
 use Rattle.gates.specs.Made.{Fits}
@@ -73,6 +73,9 @@ sort d n p (is-ite e a b c) = clash (rw e at (p .chooses))
 sort d n p (is-sub e s) = ofTwo (λ z. omega arith) (rw e) (s .right ∙ sym (s .left)) (record { own = s .word; word = omega (arith, s .word, s .left); uses = rw e; cost = top-sub _ _ d _ e ∙ sym (top-sub 0 0 d _ e); even = λ _. sym (s .left) })
 sort d n p (is-ult e s) = ofTwo (λ z. omega arith) (rw e) (s .same) (record { own = omega (arith, s .one); word = s .word; uses = rw e; cost = top-ult _ _ d _ e ∙ sym (top-ult 0 0 d _ e); even = λ z. clash (rw e at z) })
 sort d n p (is-mul e s) = ofTwo (λ z. omega arith) (rw e) (s .right ∙ sym (s .left)) (record { own = s .word; word = omega (arith, s .word, s .left); uses = rw e; cost = top-mul _ _ d _ e ∙ sym (top-mul 0 0 d _ e); even = λ _. sym (s .left) })
+sort d n p (is-or e s) = ofTwo (λ z. omega arith) (rw e) (s .right ∙ sym (s .left)) (record { own = s .word; word = omega (arith, s .word, s .left); uses = rw e; cost = top-or _ _ d _ e ∙ sym (top-or 0 0 d _ e); even = λ _. sym (s .left) })
+sort d n p (is-sll e s) = ofTwo (λ z. omega arith) (rw e) (s .right ∙ sym (s .left)) (record { own = s .word; word = omega (arith, s .word, s .left); uses = rw e; cost = top-sll _ _ d _ e ∙ sym (top-sll 0 0 d _ e); even = λ _. sym (s .left) })
+sort d n p (is-srl e s) = ofTwo (λ z. omega arith) (rw e) (s .right ∙ sym (s .left)) (record { own = s .word; word = omega (arith, s .word, s .left); uses = rw e; cost = top-srl _ _ d _ e ∙ sym (top-srl 0 0 d _ e); even = λ _. sym (s .left) })
 sort d n p (is-divu e s) = clash (rw e at (p .divides))
 sort d n p (is-rem e s) = clash (rw e at (p .divides))
 sort d n p (is-read e a b c) = clash (rw e at (p .reads))

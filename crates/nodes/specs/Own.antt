@@ -6,7 +6,7 @@ use lib.Dec.{eqb}
 use lib.ListN.{set}
 use Rattle.loops.specs.Loop.{pick, iter}
 use Rattle.table.specs.declared.Node.{Node}
-use Rattle.table.specs.Kind.{CONST, STATE, NOT, BAD, AND, EXT, EQ, ADD, ITE, SUB, ULT, MUL, DIVU, READ, WRITE, divides}
+use Rattle.table.specs.Kind.{CONST, STATE, NOT, BAD, AND, EXT, EQ, ADD, ITE, SUB, ULT, MUL, DIVU, READ, WRITE, OR, SLL, SRL, divides}
 use Rattle.table.specs.Node.{given}
 use Rattle.netlist.specs.Net.{Net}
 use Rattle.netlist.specs.Bit.{isKnown}
@@ -19,6 +19,8 @@ use Rattle.words.specs.Add.{Chain, addWords}
 use Rattle.words.specs.Sub.{subWords, ultWords, widened}
 use Rattle.words.specs.Eq.{eqWords}
 use Rattle.words.specs.Mul.{mulWords}
+use Rattle.words.specs.declared.shift.Direction.the-variants.{Left, Right}
+use Rattle.words.specs.Shift.{shiftWords}
 use Rattle.memory.specs.Read.{readWords}
 use Rattle.memory.specs.Write.{writeWords}
 use Rattle.division.specs.Constraint.{consOf}
@@ -82,7 +84,10 @@ plainWord d v A B s =
     (pick (eqb (d .kind) SUB) (ofChain (subWords v A B s blank))
     (pick (eqb (d .kind) ULT) (ofBit (ultWords v A B s))
     (pick (eqb (d .kind) MUL) (mulWords v A B (fresh s))
-    (fresh s))))))))
+    (pick (eqb (d .kind) OR) (eachBit op.Or A B v (fresh s))
+    (pick (eqb (d .kind) SLL) (shiftWords Left v A B (fresh s))
+    (pick (eqb (d .kind) SRL) (shiftWords Right v A B (fresh s))
+    (fresh s)))))))))))
 
 unfoldable pub wordOwn : Source → ℕ → ℕ → Core → Word
 wordOwn S k i s =

@@ -26,6 +26,9 @@ use table::kind::CONST;
 use table::kind::EQ;
 use table::kind::MUL;
 use table::kind::NOT;
+use table::kind::OR;
+use table::kind::SLL;
+use table::kind::SRL;
 use table::kind::SUB;
 use table::kind::ULT;
 use words::add;
@@ -33,6 +36,8 @@ use words::each;
 use words::each::Bitwise;
 use words::eq;
 use words::mul;
+use words::shift;
+use words::shift::Direction;
 use words::sub;
 
 fn eq_word(gates: &mut [u32], at: At, a: &[u32], b: &[u32], v: usize, out: &mut [u32]) -> At
@@ -109,6 +114,15 @@ fn plain_word(
     }
     if kind == MUL {
         return mul::mul_words(gates, at, a, b, v, out);
+    }
+    if kind == OR {
+        return each::each_bit(gates, at, Bitwise::Or, a, b, v, out);
+    }
+    if kind == SLL {
+        return shift::shift_words(gates, at, Direction::Left, a, b, v, out);
+    }
+    if kind == SRL {
+        return shift::shift_words(gates, at, Direction::Right, a, b, v, out);
     }
     at
 }

@@ -13,8 +13,9 @@ It reads lines of fields parted by one tab; numbers are decimal:
     word W                       first: how wide words and addresses are
     addr A                       up to 64: the addresses that memory has
     node N KIND WIDTH A B C IMM  up to 512, numbered from 1
-KIND is const input state not bad and ext eq add ite sub ult mul divu rem read
-write; A B C are earlier nodes, or 0; IMM is a const's number; WIDTH 0: memory.
+KIND is const input state not bad and or ext eq add ite sub ult mul divu rem
+sll srl read write; A B C are earlier nodes, or 0; IMM is a const's number;
+WIDTH 0 is memory.
 It prints all that the bad nodes lean on:
     gate G KIND X Y Z            0 false, 1 true, 2 bit Y of input X, 3 not,
         4 and, 5 nand, 6 or, 7 (not X) and Y, 8 and 9 carry and sum of X + Y,
@@ -26,7 +27,7 @@ or one line, refused NUMBER NODE (NODE is 0 where no single node is at fault):
  1 SIZE            a line not of these forms, too many lines, W not 1 to 64
  2 ADDRESS         an address twice, or too large for W bits
  3 KIND            no such kind
- 4 NOT LOWERED     a kind without gates here: or div sll srl next comment
+ 4 NOT LOWERED     a kind without gates here: div next comment
  5 OPERAND         missing or not an earlier node; not 0 where none belongs
  6 SORT            widths, or words and memories, that do not fit together
  7 GATE ROOM       may need more than 4,096 gates

@@ -18,7 +18,7 @@ use trial::value_of;
 const UNREACHED: u32 = 4294967295;
 
 // What is reached here is reached there, and what is known there is known here. In a plain case (no sub or ult over a right operand that the original
-// does not wholly know) that holds the other way too.
+// does not wholly know, and no srl of a word that it does not wholly know) that holds the other way too.
 fn agrees(plain: bool, here: u32, there: u64) -> bool {
     if here == UNREACHED {
         return (there == 0) | !plain;

@@ -8,13 +8,13 @@ use Rattle.table.specs.declared.Fault.the-variants.{Clear, Size, Address
 use Rattle.table.specs.Node.{fieldAt}
 use Rattle.table.specs.Sheet.{sizeGood, isAt, addressBad, addressesBad, operandsGood, sortGood, sortsGood, faultOf, nodeFault, nodeBad, nodesFault, tableFault}
 
--- width above 64 is 6, a missing operand of that node comes first; a const of width 0 is 6; kind 24 is 3, kind 18 is 4 whatever else is wrong; no nodes pass;
+-- width above 64 is 6, a missing operand of that node comes first; a const of width 0 is 6; kind 24 is 3, kind 19 is 4 whatever else is wrong; no nodes pass;
 -- 1 comes before 2, and a fault of a lower node before one of a higher
 pub edges : (tableFault (2 ∷ 65 ∷ 0 ∷ 0 ∷ 0 ∷ 0 ∷ []) [] 1 ≡ Sort 1)
     × (tableFault (4 ∷ 65 ∷ 0 ∷ 0 ∷ 0 ∷ 0 ∷ []) [] 1 ≡ Operand 1)
     × (tableFault (1 ∷ 0 ∷ 0 ∷ 0 ∷ 0 ∷ 0 ∷ []) [] 1 ≡ Sort 1)
     × (tableFault (24 ∷ 99 ∷ 9 ∷ 0 ∷ 0 ∷ 0 ∷ []) [] 1 ≡ Kind 1)
-    × (tableFault (18 ∷ 99 ∷ 9 ∷ 0 ∷ 0 ∷ 0 ∷ []) [] 1 ≡ NotLowered 1)
+    × (tableFault (19 ∷ 99 ∷ 9 ∷ 0 ∷ 0 ∷ 0 ∷ []) [] 1 ≡ NotLowered 1)
     × (tableFault (2 ∷ 65 ∷ 0 ∷ 0 ∷ 0 ∷ 0 ∷ 24 ∷ 1 ∷ 0 ∷ 0 ∷ 0 ∷ 0 ∷ []) [] 1 ≡ Sort 1)
     × (tableFault [] [] 1 ≡ Clear)
     × (tableFault [] (1 ∷ 1 ∷ []) 1 ≡ Address)

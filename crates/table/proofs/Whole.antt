@@ -15,7 +15,7 @@ use Rattle.loops.proofs.Loop.{first-true, first-below, first-found, first-le, p
 use Rattle.table.specs.declared.Fault.{Fault}
 use Rattle.table.specs.declared.Fault.the-variants.{Clear, Size, Address, Kind, NotLowered, Operand, Sort}
 use Rattle.table.specs.declared.Node.{Node}
-use Rattle.table.specs.Kind.{CONST, INPUT, STATE, NOT, BAD, AND, EXT, EQ, ADD, ITE, SUB, ULT, MUL, DIVU, REM, READ, WRITE, named, lowered, mayUseA, usesA, usesB, usesC, usesImm, evenly, compares}
+use Rattle.table.specs.Kind.{CONST, INPUT, STATE, NOT, BAD, AND, EXT, EQ, ADD, ITE, SUB, ULT, MUL, DIVU, REM, READ, WRITE, OR, SLL, SRL, named, lowered, mayUseA, usesA, usesB, usesC, usesImm, evenly, compares}
 use Rattle.table.specs.Node.{fieldAt, nodes, nodeAt, kindOf, widthOf, aOf, bOf, cOf, Narrow, Fine}
 use Rattle.table.specs.Sheet.{isClear, sizeGood, isAt, addressBad, addressesBad, operand, operandsGood, sortGood, sortsGood, faultOf, nodeFault, nodeBad, nodesFault, tableFault}
 use Rattle.table.proofs.field.Laws.{field-out}
@@ -103,6 +103,9 @@ pub data Rule (w : ℕ) (d : Node) (va vb vc : ℕ) : Type 0 where
   is-rem : d .kind ≡ REM → Even (d .width) va vb → Rule w d va vb vc
   is-read : d .kind ≡ READ → d .width ≡ w → va ≡ 0 → vb ≡ w → Rule w d va vb vc
   is-write : d .kind ≡ WRITE → d .width ≡ 0 → va ≡ 0 → vb ≡ w → vc ≡ w → Rule w d va vb vc
+  is-or : d .kind ≡ OR → Even (d .width) va vb → Rule w d va vb vc
+  is-sll : d .kind ≡ SLL → Even (d .width) va vb → Rule w d va vb vc
+  is-srl : d .kind ≡ SRL → Even (d .width) va vb → Rule w d va vb vc
 
 and3 : (a b c : Bool) → (a && b && c) ≡ true → (a ≡ true) × (b ≡ true) × (c ≡ true)
 and3 a b c e = let p = both (a && b) c e in let q = both a b (p .0) in (q .0, q .1, p .1)
@@ -117,9 +120,13 @@ module _ (w : ℕ) (d : Node) (va vb vc : ℕ) where
   abbrev R : Type 0
   R = Rule w d va vb vc
 
-  one-of : (k : ℕ) → (evenly k ≡ true) → (k ≡ AND → R) → (k ≡ ADD → R) → (k ≡ SUB → R) → (k ≡ MUL → R) → (k ≡ DIVU → R) → (k ≡ REM → R) → R
-  one-of k e f1 f2 f3 f4 f5 f6 =
-      either _ (eqb k REM) R
+  one-of : (k : ℕ) → (evenly k ≡ true) → (k ≡ AND → R) → (k ≡ ADD → R) → (k ≡ SUB → R) → (k ≡ MUL → R) → (k ≡ DIVU → R) → (k ≡ REM → R)
+      → (k ≡ OR → R) → (k ≡ SLL → R) → (k ≡ SRL → R) → R
+  one-of k e f1 f2 f3 f4 f5 f6 f7 f8 f9 =
+      either _ (eqb k SRL) R
+      (either _ (eqb k SLL) R
+      (either _ (eqb k OR) R
+      (either _ (eqb k REM) R
       (either _ (eqb k DIVU) R
       (either _ (eqb k MUL) R
       (either _ (eqb k SUB) R
@@ -129,14 +136,17 @@ module _ (w : ℕ) (d : Node) (va vb vc : ℕ) where
       (λ h. f3 (eqb-true k SUB h)))
       (λ h. f4 (eqb-true k MUL h)))
       (λ h. f5 (eqb-true k DIVU h)))
-      (λ h. f6 (eqb-true k REM h))
+      (λ h. f6 (eqb-true k REM h)))
+      (λ h. f7 (eqb-true k OR h)))
+      (λ h. f8 (eqb-true k SLL h)))
+      (λ h. f9 (eqb-true k SRL h))
       e
 
   by-even : (evenly (d .kind) && leb 1 (d .width) && eqb va (d .width) && eqb vb (d .width)) ≡ true → R
   by-even h =
       let p = and4 (evenly (d .kind)) (leb 1 (d .width)) (eqb va (d .width)) (eqb vb (d .width)) h in
       let s : Even (d .width) va vb = record { word = leb-true 1 (d .width) (p .1); left = eqb-true va (d .width) (p .2); right = eqb-true vb (d .width) (p .3) } in
-      one-of (d .kind) (p .0) (λ e. is-and e s) (λ e. is-add e s) (λ e. is-sub e s) (λ e. is-mul e s) (λ e. is-divu e s) (λ e. is-rem e s)
+      one-of (d .kind) (p .0) (λ e. is-and e s) (λ e. is-add e s) (λ e. is-sub e s) (λ e. is-mul e s) (λ e. is-divu e s) (λ e. is-rem e s) (λ e. is-or e s) (λ e. is-sll e s) (λ e. is-srl e s)
 
   by-compare : (compares (d .kind) && eqb (d .width) 1 && leb 1 va && eqb vb va) ≡ true → R
   by-compare h =
@@ -188,7 +198,6 @@ module _ (w : ℕ) (d : Node) (va vb vc : ℕ) where
 
 -- a node without fault
 pub record Sound (t : List ℕ) (w i : ℕ) : Type 0 where
-  pub kinds : (1 ≤ kindOf t i) × (kindOf t i ≤ 17)
   pub narrow : widthOf t i ≤ 64
   pub operands : Operands i (nodeAt t i)
   pub sort : Rule w (nodeAt t i) (widthOf t (aOf t i)) (widthOf t (bOf t i)) (widthOf t (cOf t i))
@@ -203,7 +212,6 @@ sound t w i h e =
     let s = past (sortsGood t w (nodeAt t i)) (Sort i) _ refl (r .1) in
     let z = rule w (nodeAt t i) (widthOf t (aOf t i)) (widthOf t (bOf t i)) (widthOf t (cOf t i)) (s .0) in
     record {
-      kinds = (leb-true 1 k (both (leb 1 k) (leb k 23) (p .0) .0), leb-true k 17 (q .0));
       narrow = z .0;
       operands = operands i (nodeAt t i) h (r .0);
       sort = z .1;

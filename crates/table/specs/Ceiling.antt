@@ -4,10 +4,11 @@ use mathlib.Core.Bool.{_||_}
 use Prim.Native.Nat.{ℕ, _+_, _-_, _*_, _/_}
 use lib.Dec.{eqb}
 use Rattle.loops.specs.Loop.{pick, sum}
+use Rattle.digits.specs.Digits.{powersBelow}
 use Rattle.table.specs.declared.Node.{Node}
 use Rattle.table.specs.declared.Sums.{Sums}
 use Rattle.table.specs.declared.Unit.the-variants.{Bit}
-use Rattle.table.specs.Kind.{NOT, AND, EQ, ADD, ITE, SUB, ULT, MUL, READ, WRITE, divides}
+use Rattle.table.specs.Kind.{NOT, AND, EQ, ADD, ITE, SUB, ULT, MUL, READ, WRITE, OR, divides, shifts}
 use Rattle.table.specs.Node.{widthOf, aOf, nodeAt, nodes, given}
 use Rattle.table.specs.Size.{sizeOf, sizeSum}
 
@@ -17,6 +18,10 @@ divGates v = 2 * v * v + 13 * v + 1 + v * (v - 1) / 2
 
 unfoldable pub divConstraints : ℕ → ℕ
 divConstraints v = v * (v - 1) / 2 + 2 * v + 2
+
+-- sll, srl: a stage for each power of two below the width
+unfoldable pub shiftGates : ℕ → ℕ
+shiftGates v = 3 * v * powersBelow v + 2 * v - powersBelow v - 1
 
 -- read, write: k gates a bit, less one, for each listed address
 unfoldable pub memoryGates : ℕ → ℕ → ℕ → ℕ
@@ -30,7 +35,7 @@ iteGates n w v = 3 * sizeOf Bit n w v
 -- const, bad, ext and an initialised state make none
 unfoldable pub plainGates : ℕ → ℕ → Node → ℕ → ℕ
 plainGates n w d x =
-    pick (eqb (d .kind) NOT || eqb (d .kind) AND) (d .width)
+    pick (eqb (d .kind) NOT || eqb (d .kind) AND || eqb (d .kind) OR) (d .width)
     (pick (eqb (d .kind) EQ) (3 * x - 1)
     (pick (eqb (d .kind) ADD) (3 * d .width)
     (pick (eqb (d .kind) SUB) (4 * d .width)
@@ -45,7 +50,8 @@ unfoldable pub ceiling : ℕ → ℕ → Node → ℕ → ℕ
 ceiling n w d x =
     pick (given d) (sizeOf Bit n w (d .width))
     (pick (divides (d .kind)) (divGates (d .width))
-    (plainGates n w d x))
+    (pick (shifts (d .kind)) (shiftGates (d .width))
+    (plainGates n w d x)))
 
 -- constraints of a node by its kind
 unfoldable pub constraintCeiling : Node → ℕ

@@ -54,12 +54,21 @@ READ = 16
 abbrev pub WRITE : ℕ
 WRITE = 17
 
+abbrev pub OR : ℕ
+OR = 18
+
+abbrev pub SLL : ℕ
+SLL = 20
+
+abbrev pub SRL : ℕ
+SRL = 21
+
 -- a number that names a kind, and a kind that is lowered
 abbrev pub named : ℕ → Bool
 named k = leb 1 k && leb k 23
 
 abbrev pub lowered : ℕ → Bool
-lowered k = leb k WRITE
+lowered k = leb k WRITE || eqb k OR || eqb k SLL || eqb k SRL
 
 -- the operands that a kind uses: const, input and state have none, but a state may have an initial node as its a
 abbrev pub mayUseA : ℕ → Bool
@@ -79,13 +88,16 @@ usesImm k = eqb k CONST
 
 -- two operands, and all widths equal
 abbrev pub evenly : ℕ → Bool
-evenly k = eqb k AND || eqb k ADD || eqb k SUB || eqb k MUL || eqb k DIVU || eqb k REM
+evenly k = eqb k AND || eqb k ADD || eqb k SUB || eqb k MUL || eqb k DIVU || eqb k REM || eqb k OR || eqb k SLL || eqb k SRL
 
 abbrev pub compares : ℕ → Bool
 compares k = eqb k EQ || eqb k ULT
 
 abbrev pub divides : ℕ → Bool
 divides k = eqb k DIVU || eqb k REM
+
+abbrev pub shifts : ℕ → Bool
+shifts k = eqb k SLL || eqb k SRL
 
 -- read and write have an address
 abbrev pub accesses : ℕ → Bool

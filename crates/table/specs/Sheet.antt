@@ -66,7 +66,7 @@ sortGood w d va vb vc =
     && ((eqb (d .kind) CONST && leb 1 (d .width) && ltb (d .imm) (2 ^ d .width))
     -- input and state are words or memories; an initial node has the state's sort
     || (eqb (d .kind) INPUT) || (eqb (d .kind) STATE && (eqb (d .a) 0 || eqb va (d .width)))
-    -- not, and, add, sub, mul, divu and rem are words with all widths equal
+    -- not, and, or, add, sub, mul, divu, rem, sll and srl are words with all widths equal
     || (eqb (d .kind) NOT && leb 1 (d .width) && eqb va (d .width)) || (evenly (d .kind) && leb 1 (d .width) && eqb va (d .width) && eqb vb (d .width))
     -- bad is 1 wide over 1
     || (eqb (d .kind) BAD && eqb (d .width) 1 && eqb va 1)

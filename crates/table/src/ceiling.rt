@@ -4,7 +4,7 @@ ghost use lib.ListN.{length};
 ghost use Rattle.table.specs.Node.{Narrow};
 ghost use Rattle.table.specs.Sheet.{tableFault};
 ghost use Rattle.table.specs.Ceiling as top;
-ghost use Rattle.table.specs.Ceiling.{divGates, divConstraints, memoryGates, iteGates, plainGates, constraintCeiling, nodeGates, nodeConstraints, sumsOf};
+ghost use Rattle.table.specs.Ceiling.{divGates, divConstraints, shiftGates, memoryGates, iteGates, plainGates, constraintCeiling, nodeGates, nodeConstraints, sumsOf};
 use crate::Fault;
 use crate::Node;
 use crate::Sums;
@@ -18,14 +18,17 @@ use crate::kind::EQ;
 use crate::kind::ITE;
 use crate::kind::MUL;
 use crate::kind::NOT;
+use crate::kind::OR;
 use crate::kind::READ;
 use crate::kind::SUB;
 use crate::kind::ULT;
 use crate::kind::WRITE;
 use crate::kind::divides;
+use crate::kind::shifts;
 use crate::size::node_size;
 use crate::size::size_of;
 use crate::size::times;
+use digits::powers_below;
 
 fn less_one(a: u64) -> u64
     ensures { λ r. ⌜ r ≡ a - 1 ⌝ }
@@ -50,6 +53,15 @@ fn div_constraints(v: u64) -> u64
     times(v, less_one(v)) / 2 + 2 * v + 2
 }
 
+// A stage for each power of two below the width.
+fn shift_gates(v: u64) -> u64
+    requires { ⌜ v ≤ 64 ⌝ }
+    ensures { λ r. ⌜ (r ≡ shiftGates v) × (r ≤ 67108864) ⌝ }
+{
+    let s = powers_below(v as usize) as u64;
+    less_one(times(3 * v, s) + 2 * v - s)
+}
+
 // For each listed address k gates a bit, less one.
 fn memory_gates(n: u64, w: u64, k: u64) -> u64
     requires { ⌜ (n ≤ 64) × (w ≤ 64) × (k ≤ 5) ⌝ }
@@ -65,14 +77,14 @@ fn ite_gates(n: u64, w: u64, v: u64) -> u64
     3 * size_of(Unit::Bit, n, w, v)
 }
 
-// The gates of a node that is neither given nor a division, over a first operand x wide.
+// The gates of a node that is not given, no division and no shift, over a first operand x wide.
 fn plain_gates(n: u64, w: u64, node: Node, x: u64) -> u64
     requires { ⌜ (n ≤ 64) × (w ≤ 64) × (node .width ≤ 64) × (x ≤ 64) ⌝ }
     ensures { λ r. ⌜ (r ≡ plainGates n w node x) × (r ≤ 67108864) ⌝ }
 {
     let k = node.kind;
     let v = node.width;
-    if (k == NOT) | (k == AND) {
+    if (k == NOT) | (k == AND) | (k == OR) {
         return v;
     }
     if k == EQ {
@@ -112,6 +124,9 @@ fn ceiling(n: u64, w: u64, node: Node, x: u64) -> u64
     }
     if divides(node.kind) {
         return div_gates(node.width);
+    }
+    if shifts(node.kind) {
+        return shift_gates(node.width);
     }
     plain_gates(n, w, node, x)
 }

@@ -35,6 +35,12 @@ pub const READ: u64 = 16;
 
 pub const WRITE: u64 = 17;
 
+pub const OR: u64 = 18;
+
+pub const SLL: u64 = 20;
+
+pub const SRL: u64 = 21;
+
 pub fn named(k: u64) -> bool
     ensures { λ r. ⌜ r ≡ kinds.named k ⌝ }
 {
@@ -44,7 +50,7 @@ pub fn named(k: u64) -> bool
 pub fn lowered(k: u64) -> bool
     ensures { λ r. ⌜ r ≡ kinds.lowered k ⌝ }
 {
-    k <= WRITE
+    (k <= WRITE) | (k == OR) | (k == SLL) | (k == SRL)
 }
 
 // A state's a is its initial node, or 0.
@@ -82,7 +88,15 @@ pub fn uses_imm(k: u64) -> bool
 pub fn evenly(k: u64) -> bool
     ensures { λ r. ⌜ r ≡ kinds.evenly k ⌝ }
 {
-    (k == AND) | (k == ADD) | (k == SUB) | (k == MUL) | (k == DIVU) | (k == REM)
+    (k == AND)
+        | (k == ADD)
+        | (k == SUB)
+        | (k == MUL)
+        | (k == DIVU)
+        | (k == REM)
+        | (k == OR)
+        | (k == SLL)
+        | (k == SRL)
 }
 
 pub fn compares(k: u64) -> bool
@@ -95,6 +109,12 @@ pub fn divides(k: u64) -> bool
     ensures { λ r. ⌜ r ≡ kinds.divides k ⌝ }
 {
     (k == DIVU) | (k == REM)
+}
+
+pub fn shifts(k: u64) -> bool
+    ensures { λ r. ⌜ r ≡ kinds.shifts k ⌝ }
+{
+    (k == SLL) | (k == SRL)
 }
 
 // read and write have an address.

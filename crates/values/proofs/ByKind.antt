@@ -3,14 +3,14 @@ use mathlib.Core.Path.{_≡_}
 use mathlib.Core.List.{List}
 use mathlib.Core.Bool.{true}
 use Prim.Native.Nat.{ℕ, _+_}
-use lib.Bits.{bitAnd}
+use lib.Bits.{bitAnd, bitOr}
 use lib.Dec.{eqb, ltb}
 use lib.ListN.{getD}
 use Rattle.loops.specs.Loop.{pick, bit}
 use Rattle.loops.proofs.Loop.{pick-true}
 use Rattle.table.specs.declared.Node.{Node}
-use Rattle.table.specs.Kind.{CONST, STATE, NOT, BAD, AND, EXT, EQ, ADD, ITE, SUB, ULT, MUL, DIVU, REM, READ, WRITE, accesses}
-use Rattle.values.specs.Value.{listed, notWord, addWord, subWord, mulWord, divWord, remWord, wordValue, readValue, writeValue, iteValue, placeAt, slotAt}
+use Rattle.table.specs.Kind.{CONST, STATE, NOT, BAD, AND, EXT, EQ, ADD, ITE, SUB, ULT, MUL, DIVU, REM, READ, WRITE, OR, SLL, SRL, accesses}
+use Rattle.values.specs.Value.{listed, notWord, addWord, subWord, mulWord, divWord, remWord, sllWord, srlWord, wordValue, readValue, writeValue, iteValue, placeAt, slotAt}
 
 module _ (l : List ℕ) (d : Node) (x : List ℕ) (a b c p j : ℕ) where
   pub at-const : d .kind ≡ CONST → slotAt l d x a b c p j ≡ d .imm
@@ -76,6 +76,18 @@ module _ (l : List ℕ) (d : Node) (x : List ℕ) (a b c p j : ℕ) where
   pub at-write : d .kind ≡ WRITE → slotAt l d x a b c p j ≡ writeValue x a p (getD x c 0) j
   unfolding slotAt pick
   at-write e = rw e
+
+  pub at-or : d .kind ≡ OR → slotAt l d x a b c p j ≡ bitOr (getD x a 0) (getD x b 0)
+  unfolding slotAt wordValue pick
+  at-or e = rw e
+
+  pub at-sll : d .kind ≡ SLL → slotAt l d x a b c p j ≡ sllWord (d .width) (getD x a 0) (getD x b 0)
+  unfolding slotAt wordValue pick
+  at-sll e = rw e
+
+  pub at-srl : d .kind ≡ SRL → slotAt l d x a b c p j ≡ srlWord (d .width) (getD x a 0) (getD x b 0)
+  unfolding slotAt wordValue pick
+  at-srl e = rw e
 
 -- the place of a read's or write's address
 pub place-access : (l : List ℕ) (d : Node) (x : List ℕ) (b : ℕ) → accesses (d .kind) ≡ true → placeAt l d x b ≡ listed l (getD x b 0)

@@ -6,7 +6,7 @@ use mathlib.Core.Bool.{true, false}
 use Prim.Native.Nat.{ℕ, _+_, _-_, _≤_, _<_}
 use native.Mathlib.Omega.{arith}
 use native.Mathlib.Decide.{decLt}
-use lib.Bits.{bitAnd}
+use lib.Bits.{bitAnd, bitOr}
 use lib.Dec.{eqb, ltb}
 use lib.ListN.{length, getD}
 use borrow.Author.Tests.{lt-ltb, le-ltb}
@@ -14,12 +14,12 @@ use Rattle.loops.specs.Loop.{pick, iter, bit}
 use Rattle.table.specs.declared.Node.{Node}
 use Rattle.table.specs.Kind.{usesA, usesB, usesC, accesses}
 use Rattle.table.specs.Node.{nodes, nodeAt, widthOf, aOf, bOf, cOf}
-use Rattle.table.proofs.Whole.{Sound, Rule, is-const, is-input, is-state, is-not, is-bad, is-and, is-ext, is-eq, is-add, is-ite, is-sub, is-ult, is-mul, is-divu, is-rem, is-read, is-write, within, each-sound}
+use Rattle.table.proofs.Whole.{Sound, Rule, is-const, is-input, is-state, is-not, is-bad, is-and, is-ext, is-eq, is-add, is-ite, is-sub, is-ult, is-mul, is-divu, is-rem, is-read, is-write, is-or, is-sll, is-srl, within, each-sound}
 use Rattle.values.specs.declared.Answer.the-variants.{Done}
-use Rattle.values.specs.Value.{listed, notWord, addWord, subWord, mulWord, divWord, remWord, readValue, writeValue, iteValue, placeAt, slotAt}
+use Rattle.values.specs.Value.{listed, notWord, addWord, subWord, mulWord, divWord, remWord, sllWord, srlWord, readValue, writeValue, iteValue, placeAt, slotAt}
 use Rattle.values.specs.Eval.{slots, offset, nodeGiven, nodeStep, evalWords}
 use Rattle.values.specs.Frame.{Valued}
-use Rattle.values.proofs.ByKind.{at-const, at-state, at-not, at-bad, at-and, at-ext, at-eq, at-add, at-ite, at-sub, at-ult, at-mul, at-divu, at-rem, at-read, at-write, place-access}
+use Rattle.values.proofs.ByKind.{at-const, at-state, at-not, at-bad, at-and, at-ext, at-eq, at-add, at-ite, at-sub, at-ult, at-mul, at-divu, at-rem, at-read, at-write, at-or, at-sll, at-srl, place-access}
 use Rattle.values.proofs.Seen.{no-input, initial, reach, see-word, see-memory, see-same}
 use Rattle.values.proofs.Kept.{kept, worked, finished}
 
@@ -116,6 +116,9 @@ module _ (t l : List ℕ) (w i : ℕ) (x y : List ℕ) (j : ℕ) (pos : 1 ≤ w)
   by-rule (is-mul e z) = two (mulWord (d .width)) (at-mul l d y oa ob oc pz j e) (at-mul l d x oa ob oc px j e) (ap usesA e) (ap usesB e) (omega arith) (omega arith)
   by-rule (is-divu e z) = two (divWord (d .width)) (at-divu l d y oa ob oc pz j e) (at-divu l d x oa ob oc px j e) (ap usesA e) (ap usesB e) (omega arith) (omega arith)
   by-rule (is-rem e z) = two remWord (at-rem l d y oa ob oc pz j e) (at-rem l d x oa ob oc px j e) (ap usesA e) (ap usesB e) (omega arith) (omega arith)
+  by-rule (is-or e z) = two bitOr (at-or l d y oa ob oc pz j e) (at-or l d x oa ob oc px j e) (ap usesA e) (ap usesB e) (omega arith) (omega arith)
+  by-rule (is-sll e z) = two (sllWord (d .width)) (at-sll l d y oa ob oc pz j e) (at-sll l d x oa ob oc px j e) (ap usesA e) (ap usesB e) (omega arith) (omega arith)
+  by-rule (is-srl e z) = two (srlWord (d .width)) (at-srl l d y oa ob oc pz j e) (at-srl l d x oa ob oc px j e) (ap usesA e) (ap usesB e) (omega arith) (omega arith)
   by-rule (is-eq e z) = two (λ u v. bit (eqb u v)) (at-eq l d y oa ob oc pz j e) (at-eq l d x oa ob oc px j e) (ap usesA e) (ap usesB e) (z .word) (omega arith)
   by-rule (is-ult e z) = two (λ u v. bit (ltb u v)) (at-ult l d y oa ob oc pz j e) (at-ult l d x oa ob oc px j e) (ap usesA e) (ap usesB e) (z .word) (omega arith)
   by-rule (is-ite e p q r) =

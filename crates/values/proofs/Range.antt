@@ -7,7 +7,7 @@ use Prim.Native.Nat.{ℕ, zero, suc, _+_, _-_, _*_, _/_, _%_, _^_, _≤_, _<_}
 use native.Mathlib.Omega.{arith}
 use native.Mathlib.Nat.{mod-lt, div-le-self, mod-le, lt-of-lt-of-le, lt-of-le-of-lt}
 use native.Mathlib.Decide.{decLt}
-use lib.Bits.{and-le-l}
+use lib.Bits.{and-le-l, or-lt}
 use lib.Dec.{eqb, ltb}
 use lib.ListN.{length, getD}
 use lib.Pow.{pow-pos, pow-mono}
@@ -19,12 +19,12 @@ use Rattle.table.specs.declared.Node.{Node}
 use Rattle.table.specs.Kind.{usesA, usesB, usesC}
 use Rattle.table.specs.Node.{nodes, nodeAt, widthOf, aOf, bOf, cOf, Narrow}
 use Rattle.table.specs.Sheet.{tableFault}
-use Rattle.table.proofs.Whole.{Sound, Rule, is-const, is-input, is-state, is-not, is-bad, is-and, is-ext, is-eq, is-add, is-ite, is-sub, is-ult, is-mul, is-divu, is-rem, is-read, is-write, within, fine, each-sound}
+use Rattle.table.proofs.Whole.{Sound, Rule, is-const, is-input, is-state, is-not, is-bad, is-and, is-ext, is-eq, is-add, is-ite, is-sub, is-ult, is-mul, is-divu, is-rem, is-read, is-write, is-or, is-sll, is-srl, within, fine, each-sound}
 use Rattle.values.specs.declared.Answer.the-variants.{Done}
-use Rattle.values.specs.Value.{notWord, addWord, subWord, mulWord, divWord, remWord, readValue, writeValue, iteValue, placeAt, slotAt}
+use Rattle.values.specs.Value.{notWord, addWord, subWord, mulWord, divWord, remWord, sllWord, srlWord, readValue, writeValue, iteValue, placeAt, slotAt}
 use Rattle.values.specs.Eval.{slots, offset, nodeGiven, slotWidth, slotBad, inputBad, evalWords}
 use Rattle.values.specs.Frame.{InRange, Made}
-use Rattle.values.proofs.ByKind.{at-const, at-state, at-not, at-bad, at-and, at-ext, at-eq, at-add, at-ite, at-sub, at-ult, at-mul, at-divu, at-rem, at-read, at-write}
+use Rattle.values.proofs.ByKind.{at-const, at-state, at-not, at-bad, at-and, at-ext, at-eq, at-add, at-ite, at-sub, at-ult, at-mul, at-divu, at-rem, at-read, at-write, at-or, at-sll, at-srl}
 use Rattle.values.proofs.Seen.{width-word, width-memory, no-input, initial, memory-own, see-word, see-memory, see-same}
 use Rattle.values.proofs.Kept.{finished}
 use Rattle.values.proofs.Local.{done-right}
@@ -58,6 +58,14 @@ rem-range : (v x y : ℕ) → x < 2 ^ v → remWord x y < 2 ^ v
 unfolding remWord
 rem-range v x y h = by-pick (λ z. z < 2 ^ v) (eqb y 0) x (x % y) (λ e. h) (λ e. lt-of-le-of-lt (mod-le x y) h)
 
+sll-range : (v x y : ℕ) → sllWord v x y < 2 ^ v
+unfolding sllWord
+sll-range v x y = by-pick (λ z. z < 2 ^ v) (ltb y v) (x * 2 ^ y % 2 ^ v) 0 (λ e. mod-lt (x * 2 ^ y) (pow-pos v)) (λ e. pow-pos v)
+
+srl-range : (v x y : ℕ) → x < 2 ^ v → srlWord v x y < 2 ^ v
+unfolding srlWord
+srl-range v x y h = by-pick (λ z. z < 2 ^ v) (ltb y v) (x / 2 ^ y) 0 (λ e. lt-of-le-of-lt (div-le-self x (2 ^ y)) h) (λ e. pow-pos v)
+
 module _ (t l : List ℕ) (w i : ℕ) (x : List ℕ) (j : ℕ) (pos : 1 ≤ w) (narrow : Narrow t) (s : Sound t w (i + 1)) (free : nodeGiven t i ≡ false) (inside : j < slots t l i)
     (all : (p m : ℕ) → 1 ≤ p → p < i + 1 → m < slots t l (p - 1) → getD x (offset t l p + m) 0 < 2 ^ slotWidth w (nodeAt t p)) where
   abbrev d : Node
@@ -87,9 +95,12 @@ module _ (t l : List ℕ) (w i : ℕ) (x : List ℕ) (j : ℕ) (pos : 1 ≤ w) (
   same : (p : ℕ) → 1 ≤ p → p < i + 1 → widthOf t p ≡ widthOf t (i + 1) → getD x (offset t l p + j) 0 < 2 ^ slotWidth w d
   same p h g z = see-same t l w i Below all p j h g z inside
 
-  -- the first operand of a word of its own width
+  -- the operands of a word of its own width
   left : usesA (d .kind) ≡ true → 1 ≤ d .width → widthOf t (aOf t (i + 1)) ≡ d .width → getD x oa 0 < 2 ^ d .width
   left u h z = rw z at (word (aOf t (i + 1)) (s .operands .a-used u) (s .operands .a) (omega arith))
+
+  right : usesB (d .kind) ≡ true → 1 ≤ d .width → widthOf t (bOf t (i + 1)) ≡ d .width → getD x ob 0 < 2 ^ d .width
+  right u h z = rw z at (word (bOf t (i + 1)) (s .operands .b-used u) (s .operands .b) (omega arith))
 
   Good : Type 0
   Good = slotAt l d x oa ob oc px j < 2 ^ slotWidth w d
@@ -130,6 +141,11 @@ module _ (t l : List ℕ) (w i : ℕ) (x : List ℕ) (j : ℕ) (pos : 1 ≤ w) (
   by-rule (is-mul e z) = as-word _ (at-mul l d x oa ob oc px j e) (z .word) (mul-range (d .width) (getD x oa 0) (getD x ob 0))
   by-rule (is-divu e z) = as-word _ (at-divu l d x oa ob oc px j e) (z .word) (div-range (d .width) (getD x oa 0) (getD x ob 0) (left (ap usesA e) (z .word) (z .left)))
   by-rule (is-rem e z) = as-word _ (at-rem l d x oa ob oc px j e) (z .word) (rem-range (d .width) (getD x oa 0) (getD x ob 0) (left (ap usesA e) (z .word) (z .left)))
+  by-rule (is-or e z) =
+      as-word _ (at-or l d x oa ob oc px j e) (z .word)
+      (or-lt (d .width) (getD x oa 0) (getD x ob 0) (left (ap usesA e) (z .word) (z .left)) (right (ap usesB e) (z .word) (z .right)))
+  by-rule (is-sll e z) = as-word _ (at-sll l d x oa ob oc px j e) (z .word) (sll-range (d .width) (getD x oa 0) (getD x ob 0))
+  by-rule (is-srl e z) = as-word _ (at-srl l d x oa ob oc px j e) (z .word) (srl-range (d .width) (getD x oa 0) (getD x ob 0) (left (ap usesA e) (z .word) (z .left)))
   by-rule (is-eq e z) = as-word _ (at-eq l d x oa ob oc px j e) (omega arith) (bit-range (d .width) (eqb (getD x oa 0) (getD x ob 0)) (omega arith))
   by-rule (is-ult e z) = as-word _ (at-ult l d x oa ob oc px j e) (omega arith) (bit-range (d .width) (ltb (getD x oa 0) (getD x ob 0)) (omega arith))
   by-rule (is-ite e p q r) =

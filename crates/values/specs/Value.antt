@@ -1,12 +1,12 @@
 -- Word values, as BTOR2 and SMT-LIB's FixedSizeBitVectors: what a node's kind makes of the values of its operands.
 use mathlib.Core.List.{List}
 use Prim.Native.Nat.{ℕ, _+_, _-_, _*_, _/_, _%_, _^_}
-use lib.Bits.{bitAnd}
+use lib.Bits.{bitAnd, bitOr}
 use lib.Dec.{eqb, ltb}
 use lib.ListN.{getD, length}
 use Rattle.loops.specs.Loop.{pick, first, bit}
 use Rattle.table.specs.declared.Node.{Node}
-use Rattle.table.specs.Kind.{CONST, STATE, NOT, AND, EQ, ADD, ITE, SUB, ULT, MUL, DIVU, REM, READ, WRITE, accesses}
+use Rattle.table.specs.Kind.{CONST, STATE, NOT, AND, EQ, ADD, ITE, SUB, ULT, MUL, DIVU, REM, READ, WRITE, OR, SLL, SRL, accesses}
 use Rattle.table.specs.Sheet.{isAt}
 
 -- modulo 2^v
@@ -29,6 +29,13 @@ divWord v x y = pick (eqb y 0) (2 ^ v - 1) (x / y)
 unfoldable pub remWord : ℕ → ℕ → ℕ
 remWord x y = pick (eqb y 0) x (x % y)
 
+-- a shift by y places; an amount of width or more gives zero
+unfoldable pub sllWord : ℕ → ℕ → ℕ → ℕ
+sllWord v x y = pick (ltb y v) (x * 2 ^ y % 2 ^ v) 0
+
+unfoldable pub srlWord : ℕ → ℕ → ℕ → ℕ
+srlWord v x y = pick (ltb y v) (x / 2 ^ y) 0
+
 -- a word, over the values x of its first and y of its second operand; bad and ext have their operand's
 unfoldable pub wordValue : Node → ℕ → ℕ → ℕ
 wordValue d x y =
@@ -42,7 +49,10 @@ wordValue d x y =
     (pick (eqb (d .kind) MUL) (mulWord (d .width) x y)
     (pick (eqb (d .kind) DIVU) (divWord (d .width) x y)
     (pick (eqb (d .kind) REM) (remWord x y)
-    x)))))))))
+    (pick (eqb (d .kind) OR) (bitOr x y)
+    (pick (eqb (d .kind) SLL) (sllWord (d .width) x y)
+    (pick (eqb (d .kind) SRL) (srlWord (d .width) x y)
+    x))))))))))))
 
 -- the place of an address among the listed ones; their number where it is not listed
 abbrev pub listed : List ℕ → ℕ → ℕ

@@ -1,6 +1,6 @@
 ghost use mathlib.Core.Path.{_≡_};
 ghost use Prim.Native.Nat.{_-_, _*_, _%_, _^_, _≤_};
-ghost use Rattle.values.specs.Value.{notWord, addWord, subWord, mulWord, divWord, remWord, wordValue};
+ghost use Rattle.values.specs.Value.{notWord, addWord, subWord, mulWord, divWord, remWord, sllWord, srlWord, wordValue};
 use table::Node;
 use table::kind::ADD;
 use table::kind::AND;
@@ -9,7 +9,10 @@ use table::kind::DIVU;
 use table::kind::EQ;
 use table::kind::MUL;
 use table::kind::NOT;
+use table::kind::OR;
 use table::kind::REM;
+use table::kind::SLL;
+use table::kind::SRL;
 use table::kind::SUB;
 use table::kind::ULT;
 
@@ -93,6 +96,27 @@ pub fn rem_word(x: u64, y: u64) -> u64
     x % y
 }
 
+// An amount of width or more gives zero, in both shifts.
+fn sll_word(v: u64, x: u64, y: u64) -> u64
+    requires { ⌜ v ≤ 64 ⌝ }
+    ensures { λ r. ⌜ r ≡ sllWord v x y ⌝ }
+{
+    if v <= y {
+        return 0;
+    }
+    reduce(x << y, v)
+}
+
+fn srl_word(v: u64, x: u64, y: u64) -> u64
+    requires { ⌜ v ≤ 64 ⌝ }
+    ensures { λ r. ⌜ r ≡ srlWord v x y ⌝ }
+{
+    if y < v {
+        return x >> y;
+    }
+    0
+}
+
 // A word node's value, over the values x and y of its operands.
 pub fn word_value(node: Node, x: u64, y: u64) -> u64
     requires { ⌜ node .width ≤ 64 ⌝ }
@@ -129,6 +153,15 @@ pub fn word_value(node: Node, x: u64, y: u64) -> u64
     }
     if k == REM {
         return rem_word(x, y);
+    }
+    if k == OR {
+        return x | y;
+    }
+    if k == SLL {
+        return sll_word(v, x, y);
+    }
+    if k == SRL {
+        return srl_word(v, x, y);
     }
     x
 }

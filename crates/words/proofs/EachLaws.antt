@@ -2,7 +2,7 @@
 use mathlib.Core.Path.{_≡_, refl, ap, sym, _∙_}
 use mathlib.Core.List.{List}
 use mathlib.Core.Bool.{Bool, true, false, not, _&&_, _||_}
-use Prim.Native.Nat.{ℕ, zero, suc, _+_, _≤_, _<_}
+use Prim.Native.Nat.{ℕ, zero, suc, _+_, _*_, _≤_, _<_}
 use native.Mathlib.Omega.{arith}
 use native.Mathlib.Decide.{decLt}
 use lib.Dec.{eqb}
@@ -15,13 +15,13 @@ use Rattle.netlist.specs.Net.{Net, Assign, Obeys}
 use Rattle.gates.specs.Made.{MadeBit, kept}
 use Rattle.gates.specs.Law.{Ext, Formed, BitLaw}
 use Rattle.gates.proofs.Laws.{ext-refl, ext-trans, ext-weaken, keeps, room-back, bit-map}
-use Rattle.gates.proofs.FoldLaws.{not-law, and-law, or-law, xnor-law}
-use Rattle.gates.proofs.ChoiceLaws.{mux-law, mux-known}
+use Rattle.gates.proofs.FoldLaws.{not-law, and-law, or-law, xnor-law, not-cost}
+use Rattle.gates.proofs.ChoiceLaws.{mux-law, mux-known, clear-law}
 use Rattle.digits.specs.Digits.{Below}
 use Rattle.words.specs.declared.each.Bitwise.{Bitwise}
-use Rattle.words.specs.declared.each.Bitwise.the-variants.{Not, And, Or, Xnor, AndWith, Choose}
+use Rattle.words.specs.declared.each.Bitwise.the-variants.{Not, And, Or, Xnor, AndWith, Choose, Clear}
 use Rattle.words.specs.Each.{bitwise, bitValue, bitCost, bitBelow, Word, eachStep, eachBit, eachCost, EachLaw, copyStep, putBits, Put}
-use Rattle.words.proofs.Sums.{sum-suc, sum-none}
+use Rattle.words.proofs.Sums.{sum-suc, sum-none, sum-most}
 
 -- each operation's law, under one name
 pub bit-law : (op : Bitwise) (s : Net) (a b : ℕ) → BitLaw s (bitBelow op (s .n) a b) (bitBelow op 2 a b) (λ e. bitValue op e a b) (bitCost op a b) (bitwise op s a b)
@@ -32,6 +32,7 @@ bit-law Or s a b = or-law s a b
 bit-law Xnor s a b = xnor-law s a b
 bit-law (AndWith c) s a b = and-law s a c
 bit-law (Choose c) s a b = mux-law s c a b
+bit-law (Clear c) s a b = clear-law s c b
 
 below-up : (op : Bitwise) (m n a b : ℕ) → m ≤ n → bitBelow op m a b → bitBelow op n a b
 unfolding bitBelow
@@ -41,6 +42,27 @@ below-up Or m n a b l h = omega arith
 below-up Xnor m n a b l h = omega arith
 below-up (AndWith c) m n a b l h = omega arith
 below-up (Choose c) m n a b l h = omega arith
+below-up (Clear c) m n a b l h = omega arith
+
+-- k gates a bit
+pub cost-each : (op : Bitwise) (k : ℕ) (left right : List ℕ) (w : ℕ) → ((a b : ℕ) → bitCost op a b ≤ k) → eachCost op left right w ≤ k * w
+cost-each op k left right w h = sum-most (λ i. bitCost op (getD left i 0) (getD right i 0)) k w (λ i l. h (getD left i 0) (getD right i 0))
+
+pub nots-cost : (bits : List ℕ) (w : ℕ) → eachCost Not bits bits w ≤ 1 * w
+unfolding bitCost
+nots-cost bits w = cost-each Not 1 bits bits w (λ a b. not-cost a)
+
+pub ands-cost : (left right : List ℕ) (w : ℕ) → eachCost And left right w ≤ 1 * w
+unfolding bitCost
+ands-cost left right w = cost-each And 1 left right w (λ a b. omega arith)
+
+pub ors-cost : (left right : List ℕ) (w : ℕ) → eachCost Or left right w ≤ 1 * w
+unfolding bitCost
+ors-cost left right w = cost-each Or 1 left right w (λ a b. omega arith)
+
+pub choose-cost : (c : ℕ) (left right : List ℕ) (w : ℕ) → eachCost (Choose c) left right w ≤ 3 * w
+unfolding bitCost
+choose-cost c left right w = cost-each (Choose c) 3 left right w (λ a b. omega arith)
 
 -- bits below a number after one more was stored, and below a larger one
 pub below-set : (n : ℕ) (bs : List ℕ) (w v : ℕ) → w < length bs → Below n bs w → v < n → Below n (set bs w v) (suc w)
@@ -116,6 +138,13 @@ module _ (op : Bitwise) (left right : List ℕ) where
   pub each-long : (s : Word) (w : ℕ) → length (eachBit op left right w s .out) ≡ length (s .out)
   unfolding eachStep
   each-long s w = iter-inv (λ i (x : Word). length (x .out) ≡ length (s .out)) (eachStep op left right) s w refl (λ i x lt e. length-set (x .out) i _ ∙ e)
+
+  -- and the bits that are not made yet
+  pub each-rest : (s : Word) (w j : ℕ) → w ≤ j → getD (eachBit op left right w s .out) j 0 ≡ getD (s .out) j 0
+  unfolding eachStep
+  each-rest s w j h =
+      iter-inv (λ i (x : Word). i ≤ j → getD (x .out) j 0 ≡ getD (s .out) j 0) (eachStep op left right) s w (λ l. refl)
+      (λ i x lt e l. getD-set-other (x .out) i j _ 0 (omega arith) ∙ e (omega arith)) h
 
 -- a choice by a known condition makes no gate, and gives the bits of the side chosen
 module _ (c : ℕ) (t f : List ℕ) (s : Word) (known : c < 2) where

@@ -1,107 +1,52 @@
 -- The law of equality, over the width.
-use mathlib.Core.Path.{_≡_, refl, ap, sym, _∙_}
+use mathlib.Core.Path.{_≡_, _∙_}
 use mathlib.Core.List.{List}
 use mathlib.Core.Bool.{Bool, true, false, not, _&&_}
 use Prim.Native.Nat.{ℕ, zero, suc, _+_, _*_, _-_, _^_, _≤_, _<_}
 use native.Mathlib.Omega.{arith}
 use native.Mathlib.Decide.{ℕ-discrete}
-use native.Mathlib.Numerals.{add-one}
 use lib.Dec.{eqb}
-use lib.ListN.{length, getD}
+use lib.ListN.{getD}
 use borrow.Author.Tests.{eq-eqb, ne-eqb}
-use Rattle.loops.specs.Loop.{iter, sum, bit}
-use Rattle.loops.proofs.Loop.{iter-inv}
-use Rattle.netlist.specs.Record.{Room}
+use Rattle.loops.specs.Loop.{bit}
 use Rattle.netlist.specs.Kind.{xor}
-use Rattle.netlist.specs.Net.{Net, Assign, Obeys}
-use Rattle.gates.specs.Made.{MadeBit, kept}
-use Rattle.gates.specs.Fold.{andBit, xnorCost}
-use Rattle.gates.specs.Law.{Ext, Formed, BitLaw, In2, Kn2}
-use Rattle.gates.proofs.Laws.{ext-refl, ext-trans, ext-weaken, keeps, room-back, kept-law}
+use Rattle.netlist.specs.Net.{Net, Assign}
+use Rattle.gates.specs.Fold.{xnorCost}
+use Rattle.gates.specs.Law.{Formed, BitLaw}
+use Rattle.gates.proofs.Laws.{ext-trans, keeps, room-back}
 use Rattle.gates.proofs.FoldLaws.{and-law, xnor-cost, xnor-known, xnor-known-right}
 use Rattle.digits.specs.Digits.{Below, number}
-use Rattle.words.specs.declared.each.Bitwise.the-variants.{Xnor}
+use Rattle.words.specs.declared.each.Bitwise.the-variants.{And, Xnor}
 use Rattle.words.specs.Num.{num, blank}
-use Rattle.words.specs.Each.{bitCost, bitValue, bitBelow, Word, eachBit, eachCost, EachLaw}
-use Rattle.words.specs.Eq.{andStep, andAll, eqCost, eqWords, EqLaw}
+use Rattle.words.specs.Each.{bitwise, bitCost, bitValue, bitBelow, Word, eachBit, eachCost, EachLaw}
+use Rattle.words.specs.Join.{joinAll}
+use Rattle.words.specs.Eq.{eqCost, eqWords, EqLaw}
 use Rattle.words.proofs.Sums.{sum-most}
 use Rattle.words.proofs.NumLaws.{num-lt, blank-long}
 use Rattle.words.proofs.EachLaws.{each-law}
+use Rattle.words.proofs.JoinLaws.{joined, joined-law}
 
--- the first w of the truth values are all true
-all : (ℕ → Bool) → ℕ → Bool
-all v zero = true
-all v (suc i) = all v i && v i
-
--- the Ands after bit 0
-AndLaw : List ℕ → Net → ℕ → MadeBit → Type 0
-AndLaw bits s i m = BitLaw s (Below (s .n) bits (suc i)) (Below 2 bits (suc i)) (λ e. all (λ j. e (getD bits j 0)) (suc i)) i m
-
-and-step : (bits : List ℕ) (s : Net) (i : ℕ) (m : MadeBit) → AndLaw bits s i m → AndLaw bits s (suc i) (andStep bits i m)
-unfolding andStep AndLaw all
-and-step bits s i m h =
-    rw (add-one i)
-    (record {
-      ext = ext-weaken s (t .net) (i + 1) (suc i) (omega arith) (ext-trans s (m .net) (t .net) i 1 (h .ext) (a .ext));
-      value = λ e o. a .value e o ∙ ap (λ x. x && e b) (h .value e (keeps (m .net) (t .net) 1 e (a .ext .grows) o));
-      formed = λ room inn f.
-          let q : Formed (m .net) × (m .bit < m .net .n) = h .formed (room-back (m .net) (t .net) 1 (a .ext .grows) room) (λ j l. inn j (omega arith)) f in
-          a .formed room (q .1, omega (arith, inn (suc i) (omega arith), h .ext .grows .from)) (q .0);
-      known = λ kn.
-          let q : (m .net ≡ s) × (m .bit < 2) = h .known (λ j l. kn j (omega arith)) in
-          let r : (t .net ≡ m .net) × (t .bit < 2) = a .known (q .1, kn (suc i) (omega arith)) in
-          (r .0 ∙ q .0, r .1);
-    })
-  where
-    b : ℕ
-    b = getD bits (suc i) 0
-
-    t : MadeBit
-    t = andBit (m .net) (m .bit) b
-
-    a : BitLaw (m .net) (In2 (m .net) (m .bit) b) (Kn2 (m .bit) b) (λ e. e (m .bit) && e b) 1 t
-    a = and-law (m .net) (m .bit) b
-
-and-all-law : (bits : List ℕ) (s : Net) (w : ℕ) → 1 ≤ w → BitLaw s (Below (s .n) bits w) (Below 2 bits w) (λ e. all (λ i. e (getD bits i 0)) w) (w - 1) (andAll w bits s)
-unfolding AndLaw all
-and-all-law bits s zero h = absurd (omega arith)
-and-all-law bits s (suc w) h =
-    let q : suc w - 1 ≡ w = omega arith in
-    rw q
-    (iter-inv (AndLaw bits s) (andStep bits) (kept s (getD bits 0 0)) w
-    (kept-law 0 (getD bits 0 0) (λ e o. refl) (λ i l. i 0 (omega arith)) (λ k. k 0 (omega arith)))
-    (λ i m lt h. and-step bits s i m h))
-
--- at any width, for the code's own proof
-pub ands-ext : (bits : List ℕ) (s : Net) (b i : ℕ) → Ext s (iter i (andStep bits) (kept s b) .net) i
-unfolding andStep
-ands-ext bits s b i =
-    iter-inv (λ j (m : MadeBit). Ext s (m .net) j) (andStep bits) (kept s b) i (ext-refl s 0)
-    (λ j m lt h. ext-weaken s _ (j + 1) (suc j) (omega arith) (ext-trans s (m .net) _ j 1 h (and-law (m .net) (m .bit) (getD bits (j + 1) 0) .ext)))
+-- one bit more, of weight p
+module _ (l r p : ℕ) (ll : l < p) (lr : r < p) where
+  one-more : (a b : Bool) → Dec (l ≡ r) → (eqb l r && not (xor a b)) ≡ eqb (l + p * bit a) (r + p * bit b)
+  one-more true true (yes q) = rw (eq-eqb l r q, eq-eqb (l + p * 1) (r + p * 1) (omega arith))
+  one-more true true (no q) = rw (ne-eqb l r q, ne-eqb (l + p * 1) (r + p * 1) (omega arith))
+  one-more true false (yes q) = rw (eq-eqb l r q, ne-eqb (l + p * 1) (r + p * 0) (omega arith))
+  one-more true false (no q) = rw (ne-eqb l r q, ne-eqb (l + p * 1) (r + p * 0) (omega arith))
+  one-more false true (yes q) = rw (eq-eqb l r q, ne-eqb (l + p * 0) (r + p * 1) (omega arith))
+  one-more false true (no q) = rw (ne-eqb l r q, ne-eqb (l + p * 0) (r + p * 1) (omega arith))
+  one-more false false (yes q) = rw (eq-eqb l r q, eq-eqb (l + p * 0) (r + p * 0) (omega arith))
+  one-more false false (no q) = rw (ne-eqb l r q, ne-eqb (l + p * 0) (r + p * 0) (omega arith))
 
 -- two words say the same number exactly if all their bits are the same
-all-num : (e : Assign) (left right : List ℕ) (v : ℕ → Bool) (w : ℕ) → ((i : ℕ) → i < w → v i ≡ not (xor (e (getD left i 0)) (e (getD right i 0))))
-    → all v w ≡ eqb (num e left w) (num e right w)
-unfolding number all
-all-num e left right v zero h = refl
+all-num : (e : Assign) (left right : List ℕ) (v : ℕ → Bool) (w : ℕ) → ((i : ℕ) → i < suc w → v i ≡ not (xor (e (getD left i 0)) (e (getD right i 0))))
+    → joined _&&_ v w ≡ eqb (num e left (suc w)) (num e right (suc w))
+unfolding number joined
+all-num e left right v zero h = rw (h 0 (omega arith)) (one-more 0 0 1 (omega arith) (omega arith) (e (getD left 0 0)) (e (getD right 0 0)) (ℕ-discrete 0 0))
 all-num e left right v (suc w) h =
-    rw (h w (omega arith), all-num e left right v w (λ i l. h i (omega arith))) (go (e (getD left w 0)) (e (getD right w 0)) (ℕ-discrete L R))
-  where
-    L : ℕ
-    L = num e left w
-
-    R : ℕ
-    R = num e right w
-
-    go : (a b : Bool) → Dec (L ≡ R) → (eqb L R && not (xor a b)) ≡ eqb (L + 2 ^ w * bit a) (R + 2 ^ w * bit b)
-    go true true (yes q) = rw (eq-eqb L R q, eq-eqb (L + 2 ^ w * 1) (R + 2 ^ w * 1) (omega arith))
-    go true true (no q) = rw (ne-eqb L R q, ne-eqb (L + 2 ^ w * 1) (R + 2 ^ w * 1) (omega arith))
-    go false false (yes q) = rw (eq-eqb L R q, eq-eqb (L + 2 ^ w * 0) (R + 2 ^ w * 0) (omega arith))
-    go false false (no q) = rw (ne-eqb L R q, ne-eqb (L + 2 ^ w * 0) (R + 2 ^ w * 0) (omega arith))
-    go true false (yes q) = rw (eq-eqb L R q, ne-eqb (L + 2 ^ w * 1) (R + 2 ^ w * 0) (omega (arith, num-lt e right w)))
-    go true false (no q) = rw (ne-eqb L R q, ne-eqb (L + 2 ^ w * 1) (R + 2 ^ w * 0) (omega (arith, num-lt e right w)))
-    go false true (yes q) = rw (eq-eqb L R q, ne-eqb (L + 2 ^ w * 0) (R + 2 ^ w * 1) (omega (arith, num-lt e left w)))
-    go false true (no q) = rw (ne-eqb L R q, ne-eqb (L + 2 ^ w * 0) (R + 2 ^ w * 1) (omega (arith, num-lt e left w)))
+    rw (h (suc w) (omega arith), all-num e left right v w (λ i l. h i (omega arith)))
+    (one-more (num e left (suc w)) (num e right (suc w)) (2 ^ suc w) (num-lt e left (suc w)) (num-lt e right (suc w)) (e (getD left (suc w) 0)) (e (getD right (suc w) 0))
+    (ℕ-discrete (num e left (suc w)) (num e right (suc w))))
 
 module _ (w : ℕ) (left right : List ℕ) (s : Net) (big : 1 ≤ w) (small : w ≤ 65) where
   x : Word
@@ -111,23 +56,27 @@ module _ (w : ℕ) (left right : List ℕ) (s : Net) (big : 1 ≤ w) (small : w 
   unfolding x
   xl = each-law Xnor left right (record { net = s; out = blank }) w (omega (arith, blank-long))
 
-  al : BitLaw (x .net) (Below (x .net .n) (x .out) w) (Below 2 (x .out) w) (λ e. all (λ i. e (getD (x .out) i 0)) w) (w - 1) (andAll w (x .out) (x .net))
-  al = and-all-law (x .out) (x .net) w big
+  al : BitLaw (x .net) (Below (x .net .n) (x .out) w) (Below 2 (x .out) w) (λ e. joined _&&_ (λ i. e (getD (x .out) i 0)) (w - 1)) (w - 1) (joinAll And w (x .out) (x .net))
+  unfolding bitwise
+  al = joined-law And _&&_ and-law (x .out) (x .net) w big
+
+  same : (e : Assign) (v : ℕ → Bool) → ((i : ℕ) → i < w → v i ≡ not (xor (e (getD left i 0)) (e (getD right i 0)))) → joined _&&_ v (w - 1) ≡ eqb (num e left w) (num e right w)
+  same e v h = let q : suc (w - 1) ≡ w = omega arith in rw q at (all-num e left right v (w - 1) (λ i l. h i (omega arith)))
 
   pub eq-law : EqLaw w left right s (eqWords w left right s)
   unfolding eqWords x bitBelow bitValue
   eq-law =
       record {
-        ext = ext-trans s (x .net) (andAll w (x .out) (x .net) .net) (eachCost Xnor left right w) (w - 1) (xl .ext) (al .ext);
+        ext = ext-trans s (x .net) (joinAll And w (x .out) (x .net) .net) (eachCost Xnor left right w) (w - 1) (xl .ext) (al .ext);
         value = λ e o.
             al .value e o
-            ∙ all-num e left right (λ i. e (getD (x .out) i 0)) w (xl .value e (keeps (x .net) (andAll w (x .out) (x .net) .net) (w - 1) e (al .ext .grows) o));
+            ∙ same e (λ i. e (getD (x .out) i 0)) (xl .value e (keeps (x .net) (joinAll And w (x .out) (x .net) .net) (w - 1) e (al .ext .grows) o));
         formed = λ rm b f.
             let q : Formed (x .net) × Below (x .net .n) (x .out) w =
-            xl .formed (room-back (x .net) (andAll w (x .out) (x .net) .net) (w - 1) (al .ext .grows) rm) (λ i l. (b .0 i l, b .1 i l)) f in
+            xl .formed (room-back (x .net) (joinAll And w (x .out) (x .net) .net) (w - 1) (al .ext .grows) rm) (λ i l. (b .0 i l, b .1 i l)) f in
             al .formed rm (q .1) (q .0);
         known = λ b.
-            let q : (andAll w (x .out) (x .net) .net ≡ x .net) × (andAll w (x .out) (x .net) .bit < 2) = al .known (λ i l. xl .knownAt i l (b .0 i l, b .1 i l)) in
+            let q : (joinAll And w (x .out) (x .net) .net ≡ x .net) × (joinAll And w (x .out) (x .net) .bit < 2) = al .known (λ i l. xl .knownAt i l (b .0 i l, b .1 i l)) in
             (q .0 ∙ xl .known (λ i l. (b .0 i l, b .1 i l)), q .1);
       }
 

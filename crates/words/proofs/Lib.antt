@@ -3,6 +3,8 @@ pub mod NumLaws
 pub mod EachLaws
 pub mod AddLaws
 pub mod SubLaws
+pub mod JoinLaws
 pub mod EqLaws
 pub mod MulLaws
+pub mod ShiftLaws
 pub mod Paths

@@ -20,9 +20,9 @@ use Rattle.words.specs.Num.{num, blank}
 use Rattle.words.specs.Each.{bitValue, bitCost, bitBelow, Word, eachBit, eachCost, EachLaw}
 use Rattle.words.specs.Add.{Chain, addOnto, chainCost, ChainLaw}
 use Rattle.words.specs.Mul.{rowOf, mulStep, mulWords, mulCost, RowLaw, OntoLaw, MulLaw}
-use Rattle.words.proofs.Sums.{sum-suc, sum-none, sum-most, sum-within}
+use Rattle.words.proofs.Sums.{sum-suc, sum-none, sum-within}
 use Rattle.words.proofs.NumLaws.{num-lt, num-suc, num-none, blank-long}
-use Rattle.words.proofs.EachLaws.{each-law, below-more}
+use Rattle.words.proofs.EachLaws.{cost-each, each-law, below-more}
 use Rattle.words.proofs.AddLaws.{pow-add, onto-law, chain-three}
 
 -- a word of false bits
@@ -52,7 +52,7 @@ num-and e row left d (suc k) h =
 
 pub row-cost : (left : List ℕ) (d k : ℕ) → eachCost (AndWith d) left left k ≤ 1 * k
 unfolding bitCost
-row-cost left d k = sum-most (λ i. bitCost (AndWith d) (getD left i 0) (getD left i 0)) 1 k (λ i l. omega arith)
+row-cost left d k = cost-each (AndWith d) 1 left left k (λ a b. omega arith)
 
 pub row-law : (left : List ℕ) (d k : ℕ) (s : Net) → k ≤ 65 → RowLaw left d k s (rowOf left d k s)
 unfolding bitValue bitBelow

@@ -20,7 +20,7 @@ use Rattle.gates.specs.Fold.{notCost}
 use Rattle.gates.specs.Adder.{adderCost}
 use Rattle.gates.specs.Law.{Ext, Formed, BitLaw}
 use Rattle.gates.proofs.Laws.{ext-trans, ext-weaken, keeps, room-back}
-use Rattle.gates.proofs.FoldLaws.{not-cost, not-known}
+use Rattle.gates.proofs.FoldLaws.{not-known}
 use Rattle.gates.proofs.AdderLaws.{cost-known, cost-less}
 use Rattle.digits.specs.Digits.{Below}
 use Rattle.words.specs.declared.each.Bitwise.the-variants.{Not}
@@ -28,9 +28,9 @@ use Rattle.words.specs.Num.{num, blank}
 use Rattle.words.specs.Each.{bitCost, bitValue, bitBelow, Word, eachBit, eachCost, EachLaw, putBits, Put}
 use Rattle.words.specs.Add.{Chain, addWords, addCost}
 use Rattle.words.specs.Sub.{subWords, subCost, widened, ultWords, SubLaw, UltLaw}
-use Rattle.words.proofs.Sums.{sum-suc, sum-mono, sum-most}
+use Rattle.words.proofs.Sums.{sum-suc, sum-mono}
 use Rattle.words.proofs.NumLaws.{num-lt, num-next, num-same, num-not, blank-long, blank-at}
-use Rattle.words.proofs.EachLaws.{each-law, below-more, put-law}
+use Rattle.words.proofs.EachLaws.{nots-cost, each-law, below-more, put-law}
 use Rattle.words.proofs.AddLaws.{AddLaw, add-law, cost-three}
 
 module _ (w : ℕ) (left right : List ℕ) (s : Net) (out : List ℕ) (small : w ≤ 65) (fits : w ≤ length out) where
@@ -49,21 +49,21 @@ module _ (w : ℕ) (left right : List ℕ) (s : Net) (out : List ℕ) (small : w
   a = add-law left (r .out) (record { net = r .net; carry = 1; out = out }) w fits
 
   -- the Not of a known bit is known, so the chain costs no more than over the right word itself
-  nots-cost : addCost left (r .out) w ≤ addCost left right w
+  nots-chain : addCost left (r .out) w ≤ addCost left right w
   unfolding bitBelow
-  nots-cost =
+  nots-chain =
       sum-mono (λ j. adderCost (getD left j 0) (getD (r .out) j 0)) (λ j. adderCost (getD left j 0) (getD right j 0)) w
       (λ i l. cost-less (getD left i 0) (getD (r .out) i 0) (getD right i 0) (λ k. n .knownAt i l k))
 
   pub nots-less : addCost left (eachBit Not right right w (record { net = s; out = blank }) .out) w ≤ addCost left right w
   unfolding r
-  nots-less = nots-cost
+  nots-less = nots-chain
 
   pub sub-law : SubLaw w left right s out (subWords w left right s out)
   unfolding subWords r t bitValue bitBelow
   sub-law =
       record {
-        ext = ext-weaken s (t .net) (eachCost Not right right w + addCost left (r .out) w) (subCost left right w) (omega (arith, nots-cost))
+        ext = ext-weaken s (t .net) (eachCost Not right right w + addCost left (r .out) w) (subCost left right w) (omega (arith, nots-chain))
             (ext-trans s (r .net) (t .net) (eachCost Not right right w) (addCost left (r .out) w) (n .ext) (a .ext));
         long = a .long;
         value = λ e o.
@@ -87,12 +87,8 @@ sub-value w left right s out t h e o =
     rw (p, add-mul-mod-self-left (num e (t .out) w) (2 ^ w) (bit (e (t .carry))), mod-eq-of-lt (num-lt e (t .out) w))
 
 -- four gates a place are enough
-nots-most : (right : List ℕ) (w : ℕ) → eachCost Not right right w ≤ 1 * w
-unfolding bitCost
-nots-most right w = sum-most (λ i. bitCost Not (getD right i 0) (getD right i 0)) 1 w (λ i l. not-cost (getD right i 0))
-
 pub sub-four : (left right : List ℕ) (w : ℕ) → subCost left right w ≤ 4 * w
-sub-four left right w = omega (arith, nots-most right w, cost-three left right w)
+sub-four left right w = omega (arith, nots-cost right w, cost-three left right w)
 
 -- Ult: over one bit more, which is known false on both sides, the top bit of the difference
 module _ (w : ℕ) (bits : List ℕ) (small : w ≤ 64) where

@@ -15,7 +15,7 @@ use Rattle.gates.specs.Choice.{muxBit}
 use Rattle.gates.specs.Law.{Ext, Formed}
 use Rattle.digits.specs.Digits.{Below}
 use Rattle.words.specs.declared.each.Bitwise.{Bitwise}
-use Rattle.words.specs.declared.each.Bitwise.the-variants.{Not, And, Or, Xnor, AndWith, Choose}
+use Rattle.words.specs.declared.each.Bitwise.the-variants.{Not, And, Or, Xnor, AndWith, Choose, Clear}
 
 -- the bit that is made of a left and a right one
 unfoldable pub bitwise : Bitwise → Net → ℕ → ℕ → MadeBit
@@ -25,6 +25,7 @@ bitwise Or s a b = orBit s a b
 bitwise Xnor s a b = xnorBit s a b
 bitwise (AndWith c) s a b = andBit s a c
 bitwise (Choose c) s a b = muxBit s c a b
+bitwise (Clear c) s a b = muxBit s c 0 b
 
 -- its value
 unfoldable pub bitValue : Bitwise → Assign → ℕ → ℕ → Bool
@@ -34,6 +35,7 @@ bitValue Or e a b = e a || e b
 bitValue Xnor e a b = not (xor (e a) (e b))
 bitValue (AndWith c) e a b = e a && e c
 bitValue (Choose c) e a b = pick (e c) (e a) (e b)
+bitValue (Clear c) e a b = not (e c) && e b
 
 -- how many gates it makes at most
 unfoldable pub bitCost : Bitwise → ℕ → ℕ → ℕ
@@ -43,6 +45,7 @@ bitCost Or a b = 1
 bitCost Xnor a b = xnorCost a b
 bitCost (AndWith c) a b = 1
 bitCost (Choose c) a b = 3
+bitCost (Clear c) a b = 1
 
 -- the bits that it looks at are below n
 unfoldable pub bitBelow : Bitwise → ℕ → ℕ → ℕ → Type 0
@@ -52,6 +55,7 @@ bitBelow Or n a b = (a < n) × (b < n)
 bitBelow Xnor n a b = (a < n) × (b < n)
 bitBelow (AndWith c) n a b = (a < n) × (c < n)
 bitBelow (Choose c) n a b = (c < n) × (a < n) × (b < n)
+bitBelow (Clear c) n a b = (c < n) × (b < n)
 
 -- a word, and the net that has its gates
 pub record Word : Type 0 where
@@ -61,10 +65,12 @@ pub record Word : Type 0 where
 abbrev pub wordOf : List ℕ → At → List ℕ → Word
 wordOf g a out = record { net = netOf g a; out = out }
 
+-- a bit that was made, put at place i
+abbrev pub placed : MadeBit → ℕ → List ℕ → Word
+placed m i out = record { net = m .net; out = set out i (m .bit) }
+
 unfoldable pub eachStep : Bitwise → List ℕ → List ℕ → ℕ → Word → Word
-eachStep op left right i st =
-    let m : MadeBit = bitwise op (st .net) (getD left i 0) (getD right i 0) in
-    record { net = m .net; out = set (st .out) i (m .bit) }
+eachStep op left right i st = placed (bitwise op (st .net) (getD left i 0) (getD right i 0)) i (st .out)
 
 -- lowest bit first
 abbrev pub eachBit : Bitwise → List ℕ → List ℕ → ℕ → Word → Word

@@ -1,29 +1,20 @@
 -- Eq: all Xnors, then Ands from the lowest up.
 use mathlib.Core.List.{List}
-use mathlib.Core.Bool.{Bool}
-use Prim.Native.Nat.{ℕ, _+_, _-_, _<_}
+use Prim.Native.Nat.{ℕ, _+_, _-_}
 use lib.Dec.{eqb}
-use lib.ListN.{getD}
-use Rattle.loops.specs.Loop.{iter}
 use Rattle.netlist.specs.Net.{Net}
-use Rattle.gates.specs.Made.{MadeBit, kept}
-use Rattle.gates.specs.Fold.{andBit}
+use Rattle.gates.specs.Made.{MadeBit}
 use Rattle.gates.specs.Law.{BitLaw}
 use Rattle.digits.specs.Digits.{Below}
-use Rattle.words.specs.declared.each.Bitwise.the-variants.{Xnor}
+use Rattle.words.specs.declared.each.Bitwise.the-variants.{And, Xnor}
 use Rattle.words.specs.Num.{num, blank}
 use Rattle.words.specs.Each.{Word, eachBit, eachCost}
-
-unfoldable pub andStep : List ℕ → ℕ → MadeBit → MadeBit
-andStep bits i m = andBit (m .net) (m .bit) (getD bits (i + 1) 0)
-
-abbrev pub andAll : ℕ → List ℕ → Net → MadeBit
-andAll w bits s = iter (w - 1) (andStep bits) (kept s (getD bits 0 0))
+use Rattle.words.specs.Join.{joinAll}
 
 unfoldable pub eqWords : ℕ → List ℕ → List ℕ → Net → MadeBit
 eqWords w left right s =
     let x : Word = eachBit Xnor left right w (record { net = s; out = blank }) in
-    andAll w (x .out) (x .net)
+    joinAll And w (x .out) (x .net)
 
 abbrev pub eqCost : List ℕ → List ℕ → ℕ → ℕ
 eqCost left right w = eachCost Xnor left right w + (w - 1)

@@ -1,9 +1,9 @@
 // Words that are made bit by bit.
 ghost use mathlib.Core.Path.{_≡_};
 ghost use Prim.Native.Nat.{ℕ, _+_, _≤_, _<_};
-ghost use lib.ListN.{length, getD};
+ghost use lib.ListN.{length};
 ghost use Rattle.gates.specs.Made.{netOf, madeOf, Fits};
-ghost use Rattle.words.specs.Each.{bitwise, bitCost, eachCost, wordOf, eachStep, eachBit, putBits};
+ghost use Rattle.words.specs.Each.{bitwise, bitCost, eachCost, wordOf, placed, eachBit, putBits};
 use gates::choice;
 use gates::fold;
 use gates::made::At;
@@ -17,9 +17,10 @@ pub enum Bitwise {
     Xnor,
     AndWith(u32),
     Choose(u32),
+    Clear(u32),
 }
 
-fn bit_of(gates: &mut [u32], at: At, op: Bitwise, a: u32, b: u32) -> Made
+pub fn bit_of(gates: &mut [u32], at: At, op: Bitwise, a: u32, b: u32) -> Made
     requires { ⌜ Fits (now gates) at (bitCost op a b) ⌝ }
     ensures { λ r. ⌜ madeOf (now (gates .exit)) (r .at) (r .bit) ≡ bitwise op (netOf (now (gates .entry)) at) a b ⌝ }
 {
@@ -30,24 +31,25 @@ fn bit_of(gates: &mut [u32], at: At, op: Bitwise, a: u32, b: u32) -> Made
         Bitwise::Xnor => fold::xnor_bit(gates, at, a, b),
         Bitwise::AndWith(c) => fold::and_bit(gates, at, a, c),
         Bitwise::Choose(c) => choice::mux_bit(gates, at, c, a, b),
+        Bitwise::Clear(c) => choice::clear_bit(gates, at, c, b),
     }
 }
 
-// One turn of each_bit.
+// One turn of each_bit and each_onto: the bit that is made of a and b, put at place i.
 fn each_step(
     gates: &mut [u32],
     at: At,
     op: Bitwise,
-    left: &[u32],
-    right: &[u32],
+    a: u32,
+    b: u32,
     out: &mut [u32],
     i: usize,
 ) -> At
-    requires { ⌜ Fits (now gates) at (bitCost op (getD (now left) i 0) (getD (now right) i 0)) ⌝ }
-    requires { ⌜ (i < length (now left)) × (i < length (now right)) × (i < length (now out)) ⌝ }
-    ensures { λ r. ⌜ wordOf (now (gates .exit)) r (now (out .exit)) ≡ eachStep op (now (left .entry)) (now (right .entry)) i (wordOf (now (gates .entry)) at (now (out .entry))) ⌝ }
+    requires { ⌜ Fits (now gates) at (bitCost op a b) ⌝ }
+    requires { ⌜ i < length (now out) ⌝ }
+    ensures { λ r. ⌜ wordOf (now (gates .exit)) r (now (out .exit)) ≡ placed (bitwise op (netOf (now (gates .entry)) at) a b) i (now (out .entry)) ⌝ }
 {
-    let m = bit_of(gates, at, op, left[i], right[i]);
+    let m = bit_of(gates, at, op, a, b);
     out[i] = m.bit;
     m.at
 }
@@ -69,7 +71,30 @@ pub fn each_bit(
     let mut next = at;
     let mut i = 0;
     while i < w {
-        next = each_step(gates, next, op, left, right, out, i);
+        next = each_step(gates, next, op, left[i], right[i], out, i);
+        i += 1;
+    }
+    next
+}
+
+// The same where the right word is replaced by the word that is made.
+pub fn each_onto(
+    gates: &mut [u32],
+    at: At,
+    op: Bitwise,
+    left: &[u32],
+    w: usize,
+    out: &mut [u32],
+) -> At
+    requires { ⌜ Fits (now gates) at (eachCost op (now left) (now out) w) ⌝ }
+    requires { ⌜ (w ≤ length (now left)) × (w ≤ length (now out)) ⌝ }
+    ensures { λ r. ⌜ wordOf (now (gates .exit)) r (now (out .exit)) ≡ eachBit op (now (left .entry)) (now (out .entry)) w (wordOf (now (gates .entry)) at (now (out .entry))) ⌝ }
+{
+    let mut next = at;
+    let mut i = 0;
+    while i < w {
+        let old = out[i];
+        next = each_step(gates, next, op, left[i], old, out, i);
         i += 1;
     }
     next

@@ -2,5 +2,7 @@
 pub mod add;
 pub mod each;
 pub mod eq;
+pub mod join;
 pub mod mul;
+pub mod shift;
 pub mod sub;

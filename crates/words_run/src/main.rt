@@ -15,6 +15,9 @@ use table::kind::ADD;
 use table::kind::EQ;
 use table::kind::INPUT;
 use table::kind::MUL;
+use table::kind::OR;
+use table::kind::SLL;
+use table::kind::SRL;
 use table::kind::SUB;
 use table::kind::ULT;
 use trial::constants;
@@ -24,8 +27,12 @@ use trial::number_of;
 use values::eval::eval_words;
 use values::eval::number;
 use words::add::add_words;
+use words::each::Bitwise;
+use words::each::each_bit;
 use words::eq::eq_words;
 use words::mul::mul_words;
+use words::shift::Direction;
+use words::shift::shift_words;
 use words::sub::sub_words;
 use words::sub::ult_words;
 
@@ -35,6 +42,9 @@ enum Op {
     Ult,
     Eq,
     Mul,
+    Or,
+    Sll,
+    Srl,
 }
 
 fn kind(op: Op) -> u64 {
@@ -44,6 +54,9 @@ fn kind(op: Op) -> u64 {
         Op::Ult => ULT,
         Op::Eq => EQ,
         Op::Mul => MUL,
+        Op::Or => OR,
+        Op::Sll => SLL,
+        Op::Srl => SRL,
     }
 }
 
@@ -54,6 +67,9 @@ fn width(op: Op) -> u64 {
         Op::Ult => 1,
         Op::Eq => 1,
         Op::Mul => 4,
+        Op::Or => 4,
+        Op::Sll => 4,
+        Op::Srl => 4,
     }
 }
 
@@ -136,6 +152,27 @@ fn mul(gates: &mut [u32], at: At, left: &[u32], right: &[u32], out: &mut [u32]) 
     mul_words(gates, at, left, right, 4, out)
 }
 
+fn or(gates: &mut [u32], at: At, left: &[u32], right: &[u32], out: &mut [u32]) -> At
+    requires { ⌜ Few (now gates) at × Four (now left) × Four (now right) × Four (now out) ⌝ }
+    ensures { λ r. ⌜ Room (now (gates .entry)) (r .n) ⌝ }
+{
+    each_bit(gates, at, Bitwise::Or, left, right, 4, out)
+}
+
+fn shift(
+    gates: &mut [u32],
+    at: At,
+    to: Direction,
+    left: &[u32],
+    right: &[u32],
+    out: &mut [u32],
+) -> At
+    requires { ⌜ Few (now gates) at × Four (now left) × Four (now right) × Four (now out) ⌝ }
+    ensures { λ r. ⌜ Room (now (gates .entry)) (r .n) ⌝ }
+{
+    shift_words(gates, at, to, left, right, 4, out)
+}
+
 fn lower(op: Op, gates: &mut [u32], at: At, left: &[u32], right: &[u32], out: &mut [u32]) -> At
     requires { ⌜ Few (now gates) at × Four (now left) × Four (now right) × Four (now out) ⌝ }
     ensures { λ r. ⌜ Room (now (gates .entry)) (r .n) ⌝ }
@@ -146,6 +183,9 @@ fn lower(op: Op, gates: &mut [u32], at: At, left: &[u32], right: &[u32], out: &m
         Op::Ult => ult(gates, at, left, right, out),
         Op::Eq => eq(gates, at, left, right, out),
         Op::Mul => mul(gates, at, left, right, out),
+        Op::Or => or(gates, at, left, right, out),
+        Op::Sll => shift(gates, at, Direction::Left, left, right, out),
+        Op::Srl => shift(gates, at, Direction::Right, left, right, out),
     }
 }
 
@@ -203,13 +243,21 @@ fn run(name: &[u8], op: Op, page: &mut [u8], place: usize) -> usize {
     tally::total(page, place, name, 256, b"pairs", differ)
 }
 
-// Each operation's line.
-fn lines(page: &mut [u8]) -> usize {
+// The lines of the operations on numbers.
+fn number_lines(page: &mut [u8]) -> usize {
     let add_end = run(b"add", Op::Add, page, 0);
     let sub_end = run(b"sub", Op::Sub, page, add_end);
     let ult_end = run(b"ult", Op::Ult, page, sub_end);
     let eq_end = run(b"eq", Op::Eq, page, ult_end);
     run(b"mul", Op::Mul, page, eq_end)
+}
+
+// Each operation's line: those on numbers, then those on masks.
+fn lines(page: &mut [u8]) -> usize {
+    let mul_end = number_lines(page);
+    let or_end = run(b"or", Op::Or, page, mul_end);
+    let sll_end = run(b"sll", Op::Sll, page, or_end);
+    run(b"srl", Op::Srl, page, sll_end)
 }
 
 // All lines go out in one write. A program ends with no status of its own, so that a write that fails is told on standard error.

@@ -6,10 +6,10 @@ use Rattle.loops.specs.Loop.{pick}
 use Rattle.loops.proofs.Loop.{pick-true, pick-false}
 use Rattle.table.specs.declared.Node.{Node}
 use Rattle.table.specs.declared.Unit.the-variants.{Bit}
-use Rattle.table.specs.Kind.{CONST, STATE, NOT, BAD, AND, EXT, EQ, ADD, ITE, SUB, ULT, MUL, DIVU, REM, READ, WRITE, divides}
+use Rattle.table.specs.Kind.{CONST, STATE, NOT, BAD, AND, EXT, EQ, ADD, ITE, SUB, ULT, MUL, DIVU, REM, READ, WRITE, OR, SLL, SRL, divides}
 use Rattle.table.specs.Node.{given}
 use Rattle.table.specs.Size.{sizeOf}
-use Rattle.table.specs.Ceiling.{divGates, divConstraints, memoryGates, iteGates, plainGates, ceiling, constraintCeiling}
+use Rattle.table.specs.Ceiling.{divGates, divConstraints, shiftGates, memoryGates, iteGates, plainGates, ceiling, constraintCeiling}
 
 module _ (n w : ℕ) (d : Node) (x : ℕ) where
   pub top-given : given d ≡ true → ceiling n w d x ≡ sizeOf Bit n w (d .width)
@@ -79,6 +79,18 @@ module _ (n w : ℕ) (d : Node) (x : ℕ) where
   pub top-write : d .kind ≡ WRITE → ceiling n w d x ≡ memoryGates n w 5
   unfolding ceiling plainGates pick
   top-write e = rw e
+
+  pub top-or : d .kind ≡ OR → ceiling n w d x ≡ d .width
+  unfolding ceiling plainGates pick
+  top-or e = rw e
+
+  pub top-sll : d .kind ≡ SLL → ceiling n w d x ≡ shiftGates (d .width)
+  unfolding ceiling plainGates pick
+  top-sll e = rw e
+
+  pub top-srl : d .kind ≡ SRL → ceiling n w d x ≡ shiftGates (d .width)
+  unfolding ceiling plainGates pick
+  top-srl e = rw e
 
 -- constraints
 module _ (d : Node) where

@@ -4,7 +4,9 @@ use Prim.Native.Nat.{ℕ, _+_, _-_, _*_, _/_, _%_, _^_, _≤_, _<_}
 use native.Mathlib.Omega.{arith}
 use native.Mathlib.Nat.{mod-eq-of-lt, mod-lt, mod-add-mod, add-mul-mod-self-right, div-add-mod', mul-add, add-mul, mul-assoc, mul-comm, mul-mul-mul-comm, lt-of-lt-of-le, mul-le-mul}
 use lib.Pow.{pow-pos, pow-mono, shl-exact, mod-mod-pow}
-use Rattle.values.specs.Value.{notWord, addWord, subWord, mulWord}
+use borrow.Author.Tests.{lt-ltb}
+use Rattle.loops.proofs.Loop.{pick-true}
+use Rattle.values.specs.Value.{notWord, addWord, subWord, mulWord, sllWord}
 
 pub shift-one : (v : ℕ) → v < 64 → (1 * 2 ^ v) % 2 ^ 64 ≡ 2 ^ v
 shift-one v h = shl-exact {a = 1} 1 v 64 (omega arith) (omega arith) ∙ (omega arith)
@@ -44,6 +46,10 @@ add-path v x y s r h e q = q ∙ (rw e (narrow (x + y) v h))
 pub mul-path : (v x y s r : ℕ) → v ≤ 64 → s ≡ x * y % 2 ^ 64 → r ≡ s % 2 ^ v → r ≡ mulWord v x y
 unfolding mulWord
 mul-path v x y s r h e q = q ∙ (rw e (narrow (x * y) v h))
+
+pub sll-path : (v x y r : ℕ) → v ≤ 64 → y < v → r ≡ x * 2 ^ y % 2 ^ 64 % 2 ^ v → r ≡ sllWord v x y
+unfolding sllWord
+sll-path v x y r h k q = q ∙ (narrow (x * 2 ^ y) v h ∙ sym (pick-true _ _ _ (lt-ltb y v k)))
 
 module _ (v x y s : ℕ) (h : v ≤ 64) (e : (s + y) % 2 ^ 64 ≡ x) where
   m : ℕ

@@ -2,7 +2,8 @@ use native.Mathlib.Omega.{arith}
 use lib.ListN.{take, drop, getD}
 use Prim.Native.Nat.{_+_, _*_, _-_}
 use Rattle.words.specs.Num.{blank}
-use Rattle.nodes.proofs.Paths.{choose-cost, choose-word-path}
+use Rattle.words.proofs.EachLaws.{choose-cost}
+use Rattle.nodes.proofs.Paths.{choose-word-path}
 use borrow.Author.Needs.{needs}
 use Rattle.nodes.proofs.choose.choose_word.Statement.{statement}
 use Rattle.nodes.proofs.choose.choose_word.Tie as tie

@@ -1,8 +1,9 @@
 use mathlib.Core.Path.{refl, ap}
 use native.Mathlib.Omega.{arith}
 use Rattle.table.specs.Kind.{compares}
-use Rattle.table.proofs.ceiling.ByKind.{top-not, top-and, top-eq, top-add, top-sub, top-ult}
-use Rattle.nodes.proofs.Paths.{blank-room, not-cost, and-cost, plain-not, plain-and, plain-eq, plain-add, plain-sub, plain-ult, plain-mul, plain-none, plain-mul-room}
+use Rattle.words.proofs.EachLaws.{nots-cost, ands-cost, ors-cost}
+use Rattle.table.proofs.ceiling.ByKind.{top-not, top-and, top-eq, top-add, top-sub, top-ult, top-or, top-sll, top-srl}
+use Rattle.nodes.proofs.Paths.{blank-room, plain-not, plain-and, plain-eq, plain-add, plain-sub, plain-ult, plain-mul, plain-or, plain-sll, plain-srl, plain-none, plain-mul-room, plain-shift-room}
 use borrow.Author.Needs.{needs}
 use Rattle.nodes.proofs.plain.plain_word.Statement.{statement}
 use Rattle.nodes.proofs.plain.plain_word.Tie as tie
@@ -14,9 +15,10 @@ use Rattle.nodes.proofs.plain.sub_word.Reads as sub-word-reads
 use Rattle.nodes.proofs.plain.ult_word.Reads as ult-word-reads
 use Rattle.words.proofs.each.each_bit.Reads as each-bit-reads
 use Rattle.words.proofs.mul.mul_words.Reads as mul-words-reads
+use Rattle.words.proofs.shift.shift_words.Reads as shift-words-reads
 
 each-bit-requires : tie.Need-each-bit-requires
-each-bit-requires c κs = omega (arith, blank-room _ (c .before .before .before .before .before .before .before .pre .1 .1 .4), not-cost (c .before .before .before .before .before .before .before .args .a .now) (c .before .before .before .before .before .before .before .args .v), top-not 0 0 (c .before .before .before .before .before .before .before .args .node) (c .before .before .before .before .before .before .before .args .v) (c .before .before .if1 .taken), c .before .before .before .before .before .before .before .pre .1 .0 .1 (ap compares (c .before .before .if1 .taken)))
+each-bit-requires c κs = omega (arith, blank-room _ (c .before .before .before .before .before .before .before .pre .1 .1 .4), nots-cost (c .before .before .before .before .before .before .before .args .a .now) (c .before .before .before .before .before .before .before .args .v), top-not 0 0 (c .before .before .before .before .before .before .before .args .node) (c .before .before .before .before .before .before .before .args .v) (c .before .before .if1 .taken), c .before .before .before .before .before .before .before .pre .1 .0 .1 (ap compares (c .before .before .if1 .taken)))
 
 same-length : tie.Need-same-length
 same-length c = search needs
@@ -28,7 +30,7 @@ returns : tie.Need-returns
 returns c = plain-not _ _ _ _ _ _ _ (c .before .before .before .before .before .before .before .before .before .before .before .before .pre .1 .1 .4) (c .before .before .before .before .before .before .before .if1 .taken) (c .before .before .before .before .each-bit .ensures)
 
 each-bit-requires-2 : tie.Need-each-bit-requires-2
-each-bit-requires-2 c κs = omega (arith, blank-room _ (c .before .before .before .before .before .before .before .before .pre .1 .1 .4), and-cost (c .before .before .before .before .before .before .before .before .args .a .now) (c .before .before .before .before .before .before .before .before .args .b .now) (c .before .before .before .before .before .before .before .before .args .v), top-and 0 0 (c .before .before .before .before .before .before .before .before .args .node) (c .before .before .before .before .before .before .before .before .args .v) (c .before .before .if2 .taken), c .before .before .before .before .before .before .before .before .pre .1 .0 .1 (ap compares (c .before .before .if2 .taken)))
+each-bit-requires-2 c κs = omega (arith, blank-room _ (c .before .before .before .before .before .before .before .before .pre .1 .1 .4), ands-cost (c .before .before .before .before .before .before .before .before .args .a .now) (c .before .before .before .before .before .before .before .before .args .b .now) (c .before .before .before .before .before .before .before .before .args .v), top-and 0 0 (c .before .before .before .before .before .before .before .before .args .node) (c .before .before .before .before .before .before .before .before .args .v) (c .before .before .if2 .taken), c .before .before .before .before .before .before .before .before .pre .1 .0 .1 (ap compares (c .before .before .if2 .taken)))
 
 same-length-3 : tie.Need-same-length-3
 same-length-3 c = search needs
@@ -99,8 +101,44 @@ same-length-14 c = search needs
 returns-7 : tie.Need-returns-7
 returns-7 c = plain-mul _ _ _ _ _ _ _ (c .before .before .before .before .before .before .before .before .before .before .before .before .before .before .before .before .before .before .pre .1 .1 .4) (c .before .before .before .before .before .before .before .if7 .taken) (c .before .before .before .before .mul-words .ensures)
 
+each-bit-requires-3 : tie.Need-each-bit-requires-3
+each-bit-requires-3 c κs = omega (arith, blank-room _ (c .before .before .before .before .before .before .before .before .before .before .before .before .before .before .pre .1 .1 .4), ors-cost (c .before .before .before .before .before .before .before .before .before .before .before .before .before .before .args .a .now) (c .before .before .before .before .before .before .before .before .before .before .before .before .before .before .args .b .now) (c .before .before .before .before .before .before .before .before .before .before .before .before .before .before .args .v), top-or 0 0 (c .before .before .before .before .before .before .before .before .before .before .before .before .before .before .args .node) (c .before .before .before .before .before .before .before .before .before .before .before .before .before .before .args .v) (c .before .before .if8 .taken), c .before .before .before .before .before .before .before .before .before .before .before .before .before .before .pre .1 .0 .1 (ap compares (c .before .before .if8 .taken)))
+
+same-length-15 : tie.Need-same-length-15
+same-length-15 c = search needs
+
+same-length-16 : tie.Need-same-length-16
+same-length-16 c = search needs
+
 returns-8 : tie.Need-returns-8
-returns-8 c = plain-none _ _ _ _ _ _ _ (c .before .before .before .before .before .before .before .before .before .before .before .pre .1 .1 .4) (c .before .before .before .before .before .before .before .before .before .before .before .pre .1 .0 .0) (c .before .before .before .before .before .before .if1 .left) (c .before .before .before .before .before .if2 .left) (c .before .before .before .before .if3 .left) (c .before .before .before .if4 .left) (c .before .before .if5 .left) (c .before .if6 .left) (c .if7 .left) refl
+returns-8 c = plain-or _ _ _ _ _ _ _ (c .before .before .before .before .before .before .before .before .before .before .before .before .before .before .before .before .before .before .before .pre .1 .1 .4) (c .before .before .before .before .before .before .before .if8 .taken) (c .before .before .before .before .each-bit3 .ensures)
+
+shift-words-requires : tie.Need-shift-words-requires
+shift-words-requires c κs = omega (arith, blank-room _ (c .before .before .before .before .before .before .before .before .before .before .before .before .before .before .before .pre .1 .1 .4), plain-shift-room (c .before .before .before .before .before .before .before .before .before .before .before .before .before .before .before .args .node) (c .before .before .before .before .before .before .before .before .before .before .before .before .before .before .before .args .v) (top-sll 0 0 (c .before .before .before .before .before .before .before .before .before .before .before .before .before .before .before .args .node) (c .before .before .before .before .before .before .before .before .before .before .before .before .before .before .before .args .v) (c .before .before .if9 .taken)) (c .before .before .before .before .before .before .before .before .before .before .before .before .before .before .before .pre .1 .0 .1 (ap compares (c .before .before .if9 .taken))))
+
+same-length-17 : tie.Need-same-length-17
+same-length-17 c = search needs
+
+same-length-18 : tie.Need-same-length-18
+same-length-18 c = search needs
+
+returns-9 : tie.Need-returns-9
+returns-9 c = plain-sll _ _ _ _ _ _ _ (c .before .before .before .before .before .before .before .before .before .before .before .before .before .before .before .before .before .before .before .before .pre .1 .1 .4) (c .before .before .before .before .before .before .before .if9 .taken) (c .before .before .before .before .shift-words .ensures)
+
+shift-words-requires-2 : tie.Need-shift-words-requires-2
+shift-words-requires-2 c κs = omega (arith, blank-room _ (c .before .before .before .before .before .before .before .before .before .before .before .before .before .before .before .before .pre .1 .1 .4), plain-shift-room (c .before .before .before .before .before .before .before .before .before .before .before .before .before .before .before .before .args .node) (c .before .before .before .before .before .before .before .before .before .before .before .before .before .before .before .before .args .v) (top-srl 0 0 (c .before .before .before .before .before .before .before .before .before .before .before .before .before .before .before .before .args .node) (c .before .before .before .before .before .before .before .before .before .before .before .before .before .before .before .before .args .v) (c .before .before .if10 .taken)) (c .before .before .before .before .before .before .before .before .before .before .before .before .before .before .before .before .pre .1 .0 .1 (ap compares (c .before .before .if10 .taken))))
+
+same-length-19 : tie.Need-same-length-19
+same-length-19 c = search needs
+
+same-length-20 : tie.Need-same-length-20
+same-length-20 c = search needs
+
+returns-10 : tie.Need-returns-10
+returns-10 c = plain-srl _ _ _ _ _ _ _ (c .before .before .before .before .before .before .before .before .before .before .before .before .before .before .before .before .before .before .before .before .before .pre .1 .1 .4) (c .before .before .before .before .before .before .before .if10 .taken) (c .before .before .before .before .shift-words2 .ensures)
+
+returns-11 : tie.Need-returns-11
+returns-11 c = plain-none _ _ _ _ _ _ _ (c .before .before .before .before .before .before .before .before .before .before .before .before .before .before .pre .1 .1 .4) (c .before .before .before .before .before .before .before .before .before .before .before .before .before .before .pre .1 .0 .0) (c .before .before .before .before .before .before .before .before .before .if1 .left) (c .before .before .before .before .before .before .before .before .if2 .left) (c .before .before .before .before .before .before .before .if3 .left) (c .before .before .before .before .before .before .if4 .left) (c .before .before .before .before .before .if5 .left) (c .before .before .before .before .if6 .left) (c .before .before .before .if7 .left) (c .before .before .if8 .left) (c .before .if9 .left) (c .if10 .left) refl
 
 pub plain-word-spec : {M : Type 1} → statement M
 plain-word-spec =
@@ -134,4 +172,16 @@ plain-word-spec =
     same-length-13
     same-length-14
     returns-7
-    returns-8)
+    each-bit-requires-3
+    same-length-15
+    same-length-16
+    returns-8
+    shift-words-requires
+    same-length-17
+    same-length-18
+    returns-9
+    shift-words-requires-2
+    same-length-19
+    same-length-20
+    returns-10
+    returns-11)

@@ -73,6 +73,24 @@ returns-11 : tie.Need-returns-11
 unfolding wordValue
 returns-11 c = search (needs, eq-eqb, ne-eqb, pick-true, pick-false)
 
+sll-word-requires : tie.Need-sll-word-requires
+sll-word-requires c κs = search needs
+
+returns-12 : tie.Need-returns-12
+unfolding wordValue
+returns-12 c = search (needs, eq-eqb, ne-eqb, pick-true, pick-false)
+
+srl-word-requires : tie.Need-srl-word-requires
+srl-word-requires c κs = search needs
+
+returns-13 : tie.Need-returns-13
+unfolding wordValue
+returns-13 c = search (needs, eq-eqb, ne-eqb, pick-true, pick-false)
+
+returns-14 : tie.Need-returns-14
+unfolding wordValue
+returns-14 c = search (needs, eq-eqb, ne-eqb, pick-true, pick-false)
+
 pub word-value-spec : {M : Type 1} → statement M
 word-value-spec =
     tie.close
@@ -95,4 +113,9 @@ word-value-spec =
     returns-9
     rem-word-requires
     returns-10
-    returns-11)
+    returns-11
+    sll-word-requires
+    returns-12
+    srl-word-requires
+    returns-13
+    returns-14)

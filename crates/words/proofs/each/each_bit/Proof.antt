@@ -5,7 +5,7 @@ use native.Mathlib.Omega.{arith}
 use lib.ListN.{length}
 use Rattle.loops.proofs.Loop.{loop-none, loop-more, loop-done}
 use Rattle.words.specs.Each.{wordOf, eachBit}
-use Rattle.words.proofs.Paths.{each-gates, each-out, each-room}
+use Rattle.words.proofs.Paths.{each-room, each-path}
 use Rattle.words.proofs.each.each_bit.Statement.{statement}
 use Rattle.words.proofs.each.each_bit.Tie as tie
 use Rattle.words.proofs.each.each_bit.Reads as reads
@@ -21,8 +21,20 @@ abbrev μ-loop : tie.MeasureT-loop
 loop-holds : tie.Need-loop-holds Inv-loop μ-loop
 loop-holds c = search (needs, loop-none)
 
+mul-each-step : tie.Need-mul-each-step Inv-loop μ-loop
+mul-each-step c = search needs
+
+shared-slice-read-each-step : tie.Need-shared-slice-read-each-step Inv-loop μ-loop
+shared-slice-read-each-step c = search needs
+
+mul-each-step-2 : tie.Need-mul-each-step-2 Inv-loop μ-loop
+mul-each-step-2 c = search needs
+
+shared-slice-read-each-step-2 : tie.Need-shared-slice-read-each-step-2 Inv-loop μ-loop
+shared-slice-read-each-step-2 c = search needs
+
 each-step-requires : tie.Need-each-step-requires Inv-loop μ-loop
-each-step-requires c κs = omega (arith, each-room _ _ _ _ _ _ (c .before .before .before .loop .next) (c .before .before .before .loop .i) (c .before .before .before .loop .inv .1) (c .before .before .before .before .before .before .before .before .args .w) (c .before .before .loop-test .taken))
+each-step-requires c κs = omega (arith, each-room _ _ _ _ _ _ (c .before .before .before .before .before .loop .next) (c .before .before .before .before .before .loop .i) (c .before .before .before .before .before .loop .inv .1) (c .before .before .before .before .before .before .before .before .before .before .args .w) (c .before .before .before .before .loop-test .taken))
 
 add-i : tie.Need-add-i Inv-loop μ-loop
 add-i c = search needs
@@ -31,7 +43,7 @@ loop-less : tie.Need-loop-less Inv-loop μ-loop
 loop-less c = omega arith
 
 loop-again : tie.Need-loop-again Inv-loop μ-loop
-loop-again c = (omega arith, search (needs, loop-more), search needs, search needs)
+loop-again c = (omega arith, search (needs, loop-more, each-path), search needs, search needs)
 
 same-length : tie.Need-same-length Inv-loop μ-loop
 same-length c = search needs
@@ -49,6 +61,10 @@ each-bit-spec =
     Inv-loop
     μ-loop
     loop-holds
+    mul-each-step
+    shared-slice-read-each-step
+    mul-each-step-2
+    shared-slice-read-each-step-2
     each-step-requires
     add-i
     loop-less
