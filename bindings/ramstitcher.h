@@ -39,11 +39,12 @@ enum ramstitcher_refusal {
     RAMSTITCHER_ZERO_DIVISOR = 10,
     RAMSTITCHER_GATE_LIST = 11,
     RAMSTITCHER_VALUE_ROOM = 12,
-    RAMSTITCHER_INPUT = 13
+    RAMSTITCHER_INPUT = 13,
+    RAMSTITCHER_NOTHING_ASKED = 14
 };
 
 /* What the lowering of a table asks for: records of gates and of constraints, and places of the map. Gives refusals 1 to 6 with their node as the
- * lowering does, and then no room. */
+ * lowering does, and then no room. A table with no bad node has room here; the lowering refuses it with 14. */
 uint64_t ramstitcher_room(const uint64_t *table, size_t table_length,
                           const uint64_t *addresses, size_t addresses_length,
                           uint64_t word,

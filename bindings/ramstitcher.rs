@@ -12,7 +12,7 @@ pub const CONSTRAINT: usize = 2;
 /// What the map holds for the bits of a node that was not reached.
 pub const UNREACHED: u32 = u32::MAX;
 
-/// A number of the refusal sheet, 1 to 13, and the node or gate beside it (0 for none).
+/// A number of the refusal sheet, 1 to 14, and the node or gate beside it (0 for none).
 #[derive(Clone, Copy, Debug, PartialEq, Eq)]
 pub struct Refusal {
     pub number: u64,
@@ -91,7 +91,7 @@ fn answer(number: u64, node: usize) -> Result<(), Refusal> {
     }
 }
 
-/// The room that the lowering of a table asks for; or its refusal, 1 to 6.
+/// The room that the lowering of a table asks for; or its refusal, 1 to 6. A table with no bad node has room here; the lowering refuses it with 14.
 pub fn room(table: &[u64], addresses: &[u64], word: u64) -> Result<Room, Refusal> {
     let (mut node, mut gates, mut constraints, mut map) = (0, 0, 0, 0);
     // SAFETY: each pointer and length is of one slice, and nothing else refers to what is written.

@@ -1,4 +1,5 @@
-/* The C header against the library: document 01's first table, a refusal with its node, a division's constraints, and buffers left alone. */
+/* The C header against the library: document 01's first table, a refusal with its node, a table that asks nothing, a division's constraints, and buffers
+ * left alone. */
 #include "ramstitcher.h"
 #include <stdio.h>
 #include <string.h>
@@ -56,6 +57,12 @@ static void lower_not(void) {
     bent[7] = 2;
     r = ramstitcher_lower(bent, COUNT(bent), none, 0, 2, gates, 20, constraints, 0, map, 3, &node, &made, &held);
     EXPECT(r == RAMSTITCHER_SORT && node == 2 && gates[0] == 0x5a5a5a5a);
+
+    /* without its bad node: 14, before the room that is missing, and after a fault */
+    r = ramstitcher_lower(table, 2 * RAMSTITCHER_NODE, none, 0, 2, gates, 0, constraints, 0, map, 0, &node, &made, &held);
+    EXPECT(r == RAMSTITCHER_NOTHING_ASKED && node == 0 && made == 0 && held == 0 && gates[0] == 0x5a5a5a5a);
+    r = ramstitcher_lower(bent, 2 * RAMSTITCHER_NODE, none, 0, 2, gates, 0, constraints, 0, map, 0, &node, &made, &held);
+    EXPECT(r == RAMSTITCHER_SORT && node == 2);
 }
 
 static void words(void) {

@@ -16,6 +16,10 @@ fn first_table() {
     assert_eq!(lower(&table[..17], &[], 2, &mut gates, &mut [], &mut map), Err(Refusal { number: 1, node: 0 }));
     assert_eq!(lower(&table, &[4], 2, &mut gates, &mut [], &mut map), Err(Refusal { number: 2, node: 0 }));
     assert_eq!(lower(&table, &[], 2, &mut gates[..12], &mut [], &mut map), Err(Refusal { number: 7, node: 0 }));
+    // without its bad node it asks nothing: the lowering refuses it, whatever is lent, and the word evaluator takes it
+    assert_eq!(lower(&table[..12], &[], 2, &mut [], &mut [], &mut []), Err(Refusal { number: 14, node: 0 }));
+    assert_eq!(lower(&[], &[], 2, &mut gates, &mut [], &mut map), Err(Refusal { number: 14, node: 0 }));
+    assert_eq!(eval_words(&table[..12], &[], 2, &mut [1, 9]), Ok(()));
 }
 
 // Squares summed up: the bits that the gates give are the words that the word evaluator gives.

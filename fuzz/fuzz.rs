@@ -102,19 +102,22 @@ fn table(r: &mut Random) -> (Vec<u64>, Vec<u64>, u64) {
         widths.push(node[1]);
         flat.extend(node);
     }
-    // most often something of it is reached
-    for _ in 0..r.below(4) {
-        let k = 1 + r.below(widths.len().max(1) as u64);
-        let width = widths.get(k as usize - 1).copied().unwrap_or(0);
-        if width != 0 {
-            let other = (1..=widths.len() as u64).rev().find(|&j| widths[j as usize - 1] == width && j != k).unwrap_or(k);
-            let last = widths.len() as u64;
-            let pair = [[8, 1, k, other, 0, 0], [5, 1, last + 1, 0, 0, 0]];
-            let bad = if width == 1 { &[[5, 1, k, 0, 0, 0]][..] } else { &pair[..] };
-            for node in bad {
-                widths.push(1);
-                flat.extend(node);
-            }
+    // most often something is asked
+    let questions = if r.one_in(12) { 0 } else { 1 + r.below(3) };
+    for _ in 0..questions {
+        let words: Vec<u64> = (1..=widths.len() as u64).filter(|&k| widths[k as usize - 1] != 0).collect();
+        if words.is_empty() {
+            break;
+        }
+        let k = r.pick(&words);
+        let width = widths[k as usize - 1];
+        let other = words.iter().copied().rev().find(|&j| widths[j as usize - 1] == width && j != k).unwrap_or(k);
+        let last = widths.len() as u64;
+        let pair = [[8, 1, k, other, 0, 0], [5, 1, last + 1, 0, 0, 0]];
+        let bad = if width == 1 { &[[5, 1, k, 0, 0, 0]][..] } else { &pair[..] };
+        for node in bad {
+            widths.push(1);
+            flat.extend(node);
         }
     }
     // now and then something is bent
@@ -233,7 +236,7 @@ fn gates(r: &mut Random) -> Vec<u32> {
 /// How often each number was answered, by entry point; and lowerings that made gates, and constraints.
 #[derive(Default)]
 struct Counts {
-    answers: [[u64; 14]; 3],
+    answers: [[u64; 15]; 3],
     gates: u64,
     constraints: u64,
 }
@@ -318,7 +321,7 @@ fn main() {
         }
     }
     for (name, c) in ["lower", "eval_words", "eval_gates"].iter().zip(&counts.answers) {
-        let shown: Vec<String> = (0..14).filter(|&i| c[i] > 0).map(|i| format!("{i}: {}", c[i])).collect();
+        let shown: Vec<String> = (0..c.len()).filter(|&i| c[i] > 0).map(|i| format!("{i}: {}", c[i])).collect();
         println!("{name}\t{}", shown.join(", "));
     }
     println!("lowered\twith gates: {}, with constraints: {}", counts.gates, counts.constraints);

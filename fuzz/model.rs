@@ -569,6 +569,9 @@ pub fn lower(t: Table, gates: &mut [u32], constraints: &mut [u32], map: &mut [u3
     if fault != DONE {
         return (fault, 0, 0);
     }
+    if (1..=t.nodes()).all(|k| t.node(k).kind != BAD) {
+        return ((14, 0), 0, 0);
+    }
     let (g, m, c) = t.sums().unwrap();
     for (number, lent, sum) in [(7, gates.len() / 4, g), (8, map.len(), m), (9, constraints.len() / 2, c)] {
         if lent < sum {

@@ -65,6 +65,8 @@ pub enum Outcome {
     Stopped(String),
     Divides,
     Shifts,
+    /// No bad node: refused here with 14, and lowered to nothing there.
+    Unasked,
     Compared(Compared),
 }
 
@@ -132,6 +134,9 @@ fn more(c: &mut Compared, table: &Table, theirs: &Answer, ours: &Answer) {
 }
 
 pub fn compare(table: &Table, given: &[Given], ours: &mut Ours) -> Outcome {
+    if table.nodes.iter().all(|n| n.kind != BAD) {
+        return Outcome::Unasked;
+    }
     let (theirs, met) = match theirs::lower(table, given) {
         Theirs::Stopped(why) => return Outcome::Stopped(why),
         Theirs::Divides => return Outcome::Divides,

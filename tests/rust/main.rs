@@ -90,6 +90,8 @@ fn run(count: usize, seed: u64) -> bool {
                 n.shifts += 1;
                 continue;
             }
+            // none is drawn: only a table that is made small can get there
+            Outcome::Unasked => continue,
             Outcome::Compared(c) => c,
         };
         n.compared += 1;

@@ -162,11 +162,18 @@ fn cut_amount(ours: &mut Ours) -> bool {
     (theirs::value(&t, &given, 3), value(&t, &given, 3, ours)) == (Some(1), Some(0))
 }
 
+/// The original makes nothing of it, and whoever looks for a bad state finds none.
+fn nothing_asked(ours: &mut Ours) -> bool {
+    let t = table(&[(INPUT, 1, [0; 3], 0)]);
+    let nothing = |answer: &Answer| answer.nodes.iter().all(Option::is_none) && answer.constraints == 0;
+    matches!(theirs::lower(&t, &[zeros(&t)]), Theirs::Lowered(answer, _) if nothing(&answer)) && refused(&t, 14, 0, ours)
+}
+
 type Check = fn(&mut Ours) -> bool;
 
 /// Says how many are as they are said to be, and which are not.
 pub fn run(ours: &mut Ours) -> bool {
-    let all: [(&str, Check); 14] = [
+    let all: [(&str, Check); 15] = [
         ("a memory", memory),
         ("a sub at width 1", narrow_sub),
         ("known bits of ult", known_by_ult),
@@ -181,6 +188,7 @@ pub fn run(ours: &mut Ours) -> bool {
         ("a shift by an unknown amount", unknown_amount),
         ("a shift by the width", wide_amount),
         ("a shift by 2^32", cut_amount),
+        ("a table that asks nothing", nothing_asked),
     ];
     let wrong: Vec<&str> = all.iter().filter(|(_, check)| !check(ours)).map(|(name, _)| *name).collect();
     println!("{} named differences, {} are not as docs/DIFFERENCES.md says", all.len(), wrong.len());

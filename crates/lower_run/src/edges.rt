@@ -139,31 +139,32 @@ fn too_many_nodes() -> bool {
     )
 }
 
-// No nodes give two gates.
-fn no_nodes() -> bool {
+// 512 nodes of which none is bad: nothing is asked, with all the room that there can be.
+fn nothing_asked() -> bool {
+    let addrs = [0u64; 0];
+    let mut table = [0u64; 3072];
+    not_chain(&mut table, 512);
+    put_node(&mut table, 512, NOT, 1, 511, 0, 0);
     let none = [0u32; 0];
-    let no_numbers = [0u64; 0];
-    let mut used_gates = [0u32; 8];
-    input_gates(&mut used_gates, 0, 0);
-    let mut gates = [0u32; 13];
-    let mut constraints = [0u32; 3];
-    let mut map = [0u32; 2];
+    let mut gates = [0u32; 2060];
+    let mut constraints = [0u32; 2];
+    let mut map = [0u32; 514];
     judge(
-        &no_numbers,
-        &no_numbers,
-        64,
+        &table,
+        &addrs,
+        1,
         &mut gates,
         &mut constraints,
         &mut map,
-        done(2, 0),
-        &used_gates,
+        refused(14, 0),
+        &none,
         &none,
         &none,
     )
 }
 
-// They need room for two: here a number is missing.
-fn no_nodes_no_room() -> bool {
+// No nodes ask nothing either. That is said before the room: for the two constants a number is missing.
+fn no_nodes() -> bool {
     let none = [0u32; 0];
     let no_numbers = [0u64; 0];
     let mut gates = [0u32; 7];
@@ -176,7 +177,7 @@ fn no_nodes_no_room() -> bool {
         &mut gates,
         &mut constraints,
         &mut map,
-        refused(7, 0),
+        refused(14, 0),
         &none,
         &none,
         &none,
@@ -336,8 +337,8 @@ fn edge(i: u64) -> bool {
     match i {
         1 => most_nodes(),
         2 => too_many_nodes(),
-        3 => no_nodes(),
-        4 => no_nodes_no_room(),
+        3 => nothing_asked(),
+        4 => no_nodes(),
         5 => no_addresses(),
         6 => many_ites(),
         7 => division(),

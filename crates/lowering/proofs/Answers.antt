@@ -1,10 +1,16 @@
 -- What a caller of the lowering knows by its answer.
-use mathlib.Core.Path.{_≡_, refl, sym, _∙_, subst}
+use mathlib.Core.Path.{_≡_, refl, ap, sym, _∙_, subst}
 use mathlib.Core.List.{List}
-use Prim.Native.Nat.{ℕ, _+_, _≤_}
+use mathlib.Core.Bool.{Bool, true, false}
+use Prim.Native.Nat.{ℕ, _+_, _≤_, _<_}
 use native.Mathlib.Omega.{arith}
 use lib.ListN.{length}
-use Rattle.table.specs.Node.{nodes}
+use Rattle.loops.proofs.Loop.{pick-true, pick-false}
+use Rattle.table.specs.declared.Fault.the-variants.{Clear}
+use Rattle.table.specs.Kind.{BAD}
+use Rattle.table.specs.Node.{nodes, kindOf}
+use Rattle.table.specs.Sheet.{tableFault, isClear, asks}
+use Rattle.table.proofs.Whole.{asked}
 use Rattle.netlist.specs.Record.{gate, put, Room}
 use Rattle.netlist.proofs.RecordLaws.{put-length}
 use Rattle.division.specs.Constraint.{conUsed}
@@ -14,10 +20,10 @@ use Rattle.visits.proofs.Walk.{Fit, fit-later}
 use Rattle.visits.proofs.Roots.{start-fit, rooted}
 use Rattle.visits.proofs.Small.{net-invariant, start-net}
 use Rattle.lowering.specs.declared.lower.Answer.{Answer}
-use Rattle.lowering.specs.declared.lower.Answer.the-variants.{Done}
+use Rattle.lowering.specs.declared.lower.Answer.the-variants.{Done, NothingAsked}
 use Rattle.nodes.specs.Source.{Source}
 use Rattle.nodes.specs.Recipe.{recipe}
-use Rattle.lowering.specs.Lower.{Run, run, start, lowered, lowerAll, Accepted}
+use Rattle.lowering.specs.Lower.{Run, run, start, lowered, lowerAsked, lowerAll, Accepted}
 use Rattle.nodes.proofs.ShapeLaws.{shape}
 use Rattle.lowering.proofs.StartLaws.{starts}
 use Rattle.lowering.proofs.VisitFacts.{own-steps}
@@ -56,3 +62,13 @@ module _ (S : Source) (g c m : List ℕ) where
         constraints = omega (arith, r .roomAsks, l .consLong, start-long .1, f .asks);
         marks = l .seenLong ∙ begun (f .accepted) .nodes;
       }
+
+-- a table without fault that has no bad node is turned down, whatever is lent
+module _ (S : Source) (g c m : List ℕ) (none : (i : ℕ) → i < nodes (S .table) → kindOf (S .table) (i + 1) ≡ BAD → ⊥) where
+  asks-nothing : (b : Bool) → asks (S .table) ≡ b → asks (S .table) ≡ false
+  asks-nothing true e = let q = asked (S .table) e in absurd (none (q .0) (q .1) (q .2))
+  asks-nothing false e = e
+
+  pub turned-down : tableFault (S .table) (S .addrs) (S .word) ≡ Clear → lowerAll S g c m ≡ run NothingAsked g c m
+  unfolding lowerAll lowerAsked
+  turned-down clear = pick-true _ _ _ (ap isClear clear) ∙ pick-false _ _ _ (asks-nothing (asks (S .table)) refl)

@@ -14,16 +14,16 @@ use Rattle.table.specs.declared.Unit.the-variants.{Bit}
 use Rattle.table.specs.declared.Sums.{Sums}
 use Rattle.table.specs.Node.{nodes, Narrow}
 use Rattle.table.specs.Size.{sizeSum, offsetsInto}
-use Rattle.table.specs.Sheet.{tableFault, isClear}
+use Rattle.table.specs.Sheet.{tableFault, isClear, asks}
 use Rattle.table.specs.Ceiling.{sumsOf}
 use Rattle.table.proofs.Whole.{within, fine, is-clear}
 use Rattle.table.proofs.size.Laws as size
 use Rattle.netlist.specs.Record.{records}
 use Rattle.visits.specs.Flow.{Low}
-use Rattle.lowering.specs.declared.lower.Answer.the-variants.{Done, Table, GateRoom, BitRoom, ConstraintRoom, ZeroDivisor}
+use Rattle.lowering.specs.declared.lower.Answer.the-variants.{Done, Table, NothingAsked, GateRoom, BitRoom, ConstraintRoom, ZeroDivisor}
 use Rattle.nodes.specs.declared.own.Progress.{Progress}
 use Rattle.nodes.specs.Source.{Source, listed, totalOf}
-use Rattle.lowering.specs.Lower.{Run, run, sums, conRecords, zeros, lowered, ended, lowerClear, lowerAll, marked, Accepted}
+use Rattle.lowering.specs.Lower.{Run, run, sums, conRecords, zeros, lowered, ended, lowerClear, lowerAsked, lowerAll, marked, Accepted}
 use Rattle.lowering.specs.Visit.{Begins, lowOf}
 
 pub map-sum : (S : Source) → sums S .map ≡ totalOf S
@@ -108,8 +108,8 @@ module _ (S : Source) (g c m z : List ℕ) (s : Sums) (e : s ≡ sums S) where
         pairs : sums S .constraints ≤ conRecords c
         pairs = rw e at le3
 
-        pub accepted : tableFault (S .table) (S .addrs) (S .word) ≡ Clear → Accepted S g c m
-        accepted clear = record { clear = clear; gates = enough; map = places; constraints = pairs }
+        pub accepted : (tableFault (S .table) (S .addrs) (S .word) ≡ Clear) × (asks (S .table) ≡ true) → Accepted S g c m
+        accepted h = record { clear = h .0; asked = h .1; gates = enough; map = places; constraints = pairs }
 
         pub roomy : (r : Run) → r ≡ ended S g c m (lowered S g c) → r ≡ lowerClear S g c m
         unfolding lowerClear
@@ -119,7 +119,7 @@ module _ (S : Source) (g c m z : List ℕ) (s : Sums) (e : s ≡ sums S) where
             (pick-false _ _ _ (le-ltb (records g) (sums S .gates) enough)
             ∙ (pick-false _ _ _ (le-ltb (length m) (sums S .map) places) ∙ pick-false _ _ _ (le-ltb (conRecords c) (sums S .constraints) pairs)))
 
--- the table first: 1 to 6
+-- the table first: 1 to 6, then 14
 module _ (S : Source) (g c m : List ℕ) (f : Fault) (e : f ≡ tableFault (S .table) (S .addrs) (S .word)) (b : Bool) (k : b ≡ isClear f) where
   pub faulty : b ≡ false → run (Table f) g c m ≡ lowerAll S g c m
   unfolding lowerAll
@@ -128,10 +128,26 @@ module _ (S : Source) (g c m : List ℕ) (f : Fault) (e : f ≡ tableFault (S .t
   pub clear-table : b ≡ true → tableFault (S .table) (S .addrs) (S .word) ≡ Clear
   clear-table h = sym e ∙ is-clear f (ap not (sym k ∙ h))
 
-  pub clear-all : b ≡ true → (r : Run) → r ≡ lowerClear S g c m → r ≡ lowerAll S g c m
-  unfolding lowerAll
-  clear-all h r q = q ∙ sym (pick-true _ _ _ (ap isClear (sym e) ∙ sym k ∙ h))
+  module _ (h : b ≡ true) (s : Bool) (q : s ≡ asks (S .table)) where
+    past : lowerAll S g c m ≡ lowerAsked S g c m
+    unfolding lowerAll
+    past = pick-true _ _ _ (ap isClear (sym e) ∙ sym k ∙ h)
+
+    pub unasked : s ≡ false → run NothingAsked g c m ≡ lowerAll S g c m
+    unfolding lowerAsked
+    unasked n = sym (past ∙ pick-false _ _ _ (sym q ∙ n))
+
+    pub clear-asked : s ≡ true → (tableFault (S .table) (S .addrs) (S .word) ≡ Clear) × (asks (S .table) ≡ true)
+    clear-asked y = (clear-table h, sym q ∙ y)
+
+    pub clear-all : s ≡ true → (r : Run) → r ≡ lowerClear S g c m → r ≡ lowerAll S g c m
+    unfolding lowerAsked
+    clear-all y r x = x ∙ sym (past ∙ pick-true _ _ _ (sym q ∙ y))
 
 pub faulty-marks : (S : Source) (g c z : List ℕ) (f : Fault) → z ≡ marked S g c z (Table f)
 unfolding marked
 faulty-marks S g c z f = refl
+
+pub unasked-marks : (S : Source) (g c z : List ℕ) → z ≡ marked S g c z NothingAsked
+unfolding marked
+unasked-marks S g c z = refl

@@ -13,7 +13,7 @@ use borrow.Author.Tests.{eqb-true, ltb-false}
 use Rattle.loops.specs.Loop.{iter}
 use Rattle.loops.proofs.Loop.{by-pick, iter-inv}
 use Rattle.table.specs.declared.Fault.the-variants.{Clear}
-use Rattle.table.specs.Sheet.{tableFault, isClear}
+use Rattle.table.specs.Sheet.{tableFault, isClear, asks}
 use Rattle.table.proofs.Whole.{is-clear}
 use Rattle.netlist.specs.Record.{records}
 use Rattle.values.specs.declared.Answer.the-variants as words
@@ -27,7 +27,7 @@ use Rattle.lowering.specs.declared.lower.Answer.the-variants.{Done, Tabl
 use Rattle.nodes.specs.Source.{Source, totalOf, gatesOf}
 use Rattle.nodes.specs.Own.{ownStep}
 use Rattle.nodes.specs.Recipe.{recipe}
-use Rattle.lowering.specs.Lower.{Run, run, start, lowered, sums, conRecords, ended, lowerClear, lowerAll, Accepted, number, countsOf}
+use Rattle.lowering.specs.Lower.{Run, run, start, lowered, sums, conRecords, ended, lowerClear, lowerAsked, lowerAll, Accepted, number, countsOf}
 use Rattle.nodes.specs.Meaning.{meaning}
 use Rattle.nodes.specs.Asked.{coreAt}
 use Rattle.lowering.specs.Promise.{said, Right, Bounded, Promise}
@@ -60,23 +60,28 @@ module _ (S : Source) (g c m : List ℕ) (n k : ℕ) where
       (λ z e. record { accepted = a; runs = eqb-true (lowered S g c .core .stop) 0 z; count = ap (λ (x : Answer). countsOf x .gates) e; asks = ap (λ (x : Answer). countsOf x .constraints) e; gates = refl; cons = refl; map = refl })
       (λ _ e. clash (sym (ap (λ (x : Answer). countsOf x .done) e)))
 
-  finished-clear : tableFault (S .table) (S .addrs) (S .word) ≡ Clear → Ends (lowerClear S g c m)
+  finished-clear : tableFault (S .table) (S .addrs) (S .word) ≡ Clear → asks (S .table) ≡ true → Ends (lowerClear S g c m)
   unfolding lowerClear
-  finished-clear clear =
+  finished-clear clear asked =
       by-pick Ends (ltb (records g) (sums S .gates)) _ _ (λ _ e. clash (sym (ap (λ (x : Answer). countsOf x .done) e)))
       (λ a. by-pick Ends (ltb (length m) (sums S .map)) _ _ (λ _ e. clash (sym (ap (λ (x : Answer). countsOf x .done) e)))
       (λ b. by-pick Ends (ltb (conRecords c) (sums S .constraints)) _ _ (λ _ e. clash (sym (ap (λ (x : Answer). countsOf x .done) e)))
       (λ d. finished-end (record {
         clear = clear;
+        asked = asked;
         gates = ltb-false (records g) (sums S .gates) a;
         map = ltb-false (length m) (sums S .map) b;
         constraints = ltb-false (conRecords c) (sums S .constraints) d;
       }))))
 
+  finished-asked : tableFault (S .table) (S .addrs) (S .word) ≡ Clear → Ends (lowerAsked S g c m)
+  unfolding lowerAsked
+  finished-asked clear = by-pick Ends (asks (S .table)) _ _ (finished-clear clear) (λ _ e. clash (sym (ap (λ (x : Answer). countsOf x .done) e)))
+
   pub finished : Ends (lowerAll S g c m)
   unfolding lowerAll
   finished =
-      by-pick Ends (isClear (tableFault (S .table) (S .addrs) (S .word))) _ _ (λ h. finished-clear (is-clear (tableFault (S .table) (S .addrs) (S .word)) (ap (λ (b : Bool). not b) h))) (λ _ e. clash (sym (ap (λ (x : Answer). countsOf x .done) e)))
+      by-pick Ends (isClear (tableFault (S .table) (S .addrs) (S .word))) _ _ (λ h. finished-asked (is-clear (tableFault (S .table) (S .addrs) (S .word)) (ap (λ (b : Bool). not b) h))) (λ _ e. clash (sym (ap (λ (x : Answer). countsOf x .done) e)))
 
 -- the map keeps its length
 module _ (S : Source) (g c m : List ℕ) (a : Accepted S g c m) where

@@ -1,4 +1,4 @@
--- Demand 3 of the lowering of a table without fault, with room for the sums: what it makes is small and formed, and it is refused only with 10.
+-- Demand 3 of the lowering of a table without fault that asks something, with room for the sums: what it makes is small and formed, and it is refused only with 10.
 use mathlib.Core.Path.{_≡_, ap, _∙_}
 use mathlib.Core.List.{List}
 use Prim.Native.Nat.{ℕ}
@@ -13,7 +13,7 @@ use Rattle.visits.proofs.Halts as halts
 use Rattle.lowering.specs.declared.lower.Answer.the-variants.{Done, ZeroDivisor}
 use Rattle.nodes.specs.Source.{Source}
 use Rattle.nodes.specs.Recipe.{recipe}
-use Rattle.lowering.specs.Lower.{start, lowered, sums, conRecords, Run, ended, lowerClear, lowerAll, Accepted}
+use Rattle.lowering.specs.Lower.{start, lowered, sums, conRecords, Run, ended, lowerClear, lowerAsked, lowerAll, Accepted}
 use Rattle.nodes.proofs.ShapeLaws.{shape}
 use Rattle.nodes.proofs.MemoryLaws.{ReadsOwed, WritesOwed}
 use Rattle.nodes.proofs.DivisionLaws.{DividesOwed, KnownOwed}
@@ -21,14 +21,15 @@ use Rattle.nodes.proofs.OwnLaws.{own-law}
 use Rattle.lowering.proofs.StartLaws.{starts}
 
 module _ (S : Source) (g c m : List ℕ) (a : Accepted S g c m) where
-  -- then neither of the refusals 1 to 9 stands in its way
+  -- then none of the refusals 1 to 9 and 14 stands in its way
   lowers : lowerAll S g c m ≡ ended S g c m (lowered S g c)
-  unfolding lowerAll lowerClear
+  unfolding lowerAll lowerAsked lowerClear
   lowers =
       pick-true _ _ _ (ap isClear (a .clear))
+      ∙ (pick-true _ _ _ (a .asked)
       ∙ (pick-false _ _ _ (le-ltb (records g) (sums S .gates) (a .gates))
       ∙ (pick-false _ _ _ (le-ltb (length m) (sums S .map) (a .map))
-      ∙ pick-false _ _ _ (le-ltb (conRecords c) (sums S .constraints) (a .constraints))))
+      ∙ pick-false _ _ _ (le-ltb (conRecords c) (sums S .constraints) (a .constraints)))))
 
   pub done : lowered S g c .core .stop ≡ 0 → lowerAll S g c m .answer ≡ Done (lowered S g c .core .net .n) (lowered S g c .core .nc)
   unfolding ended

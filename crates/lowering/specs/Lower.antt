@@ -1,4 +1,4 @@
--- The lowering: refusals 1 to 6, then 7, 8, 9, then 10; on success gates, constraints and bit map.
+-- The lowering: refusals 1 to 6, then 14, then 7, 8, 9, then 10; on success gates, constraints and bit map.
 use mathlib.Core.Path.{_≡_}
 use mathlib.Core.List.{List, _++_}
 use mathlib.Core.Bool.{Bool, true, false}
@@ -10,13 +10,13 @@ use Rattle.table.specs.Node.{nodes}
 use Rattle.table.specs.declared.Sums.{Sums}
 use Rattle.table.specs.declared.Fault.the-variants.{Clear}
 use Rattle.table.specs.Sheet as sheet
-use Rattle.table.specs.Sheet.{tableFault, isClear}
+use Rattle.table.specs.Sheet.{tableFault, isClear, asks}
 use Rattle.table.specs.Ceiling.{sumsOf}
 use Rattle.netlist.specs.Record.{gate, put, records}
 use Rattle.visits.specs.Flow.{Low, lowerTo}
 use Rattle.lowering.specs.declared.lower.Answer.{Answer}
 use Rattle.lowering.specs.declared.lower.Counts.{Counts}
-use Rattle.lowering.specs.declared.lower.Answer.the-variants.{Done, Table, GateRoom, BitRoom, ConstraintRoom, ZeroDivisor}
+use Rattle.lowering.specs.declared.lower.Answer.the-variants.{Done, Table, NothingAsked, GateRoom, BitRoom, ConstraintRoom, ZeroDivisor}
 use Rattle.nodes.specs.Source.{Source, listed, totalOf}
 use Rattle.nodes.specs.Recipe.{recipe}
 
@@ -24,6 +24,7 @@ use Rattle.nodes.specs.Recipe.{recipe}
 abbrev pub number : Answer → ℕ
 number (Done g c) = 0
 number (Table f) = sheet.number f
+number NothingAsked = 14
 number GateRoom = 7
 number BitRoom = 8
 number ConstraintRoom = 9
@@ -32,6 +33,7 @@ number (ZeroDivisor k) = 10
 abbrev pub node : Answer → ℕ
 node (Done g c) = 0
 node (Table f) = sheet.node f
+node NothingAsked = 0
 node GateRoom = 0
 node BitRoom = 0
 node ConstraintRoom = 0
@@ -44,6 +46,7 @@ countsAt d n k = record { done = d; gates = n; constraints = k }
 abbrev pub countsOf : Answer → Counts
 countsOf (Done n k) = countsAt true n k
 countsOf (Table f) = countsAt false 0 0
+countsOf NothingAsked = countsAt false 0 0
 countsOf GateRoom = countsAt false 0 0
 countsOf BitRoom = countsAt false 0 0
 countsOf ConstraintRoom = countsAt false 0 0
@@ -109,24 +112,30 @@ lowerClear S g c m =
     (pick (ltb (conRecords c) (sums S .constraints)) (run ConstraintRoom g c m)
     (ended S g c m (lowered S g c))))
 
+-- 14 NOTHING ASKED: no node is bad
+unfoldable pub lowerAsked : Source → List ℕ → List ℕ → List ℕ → Run
+lowerAsked S g c m = pick (asks (S .table)) (lowerClear S g c m) (run NothingAsked g c m)
+
 -- 1 to 6 first; every refusal but 10 changes nothing
 unfoldable pub lowerAll : Source → List ℕ → List ℕ → List ℕ → Run
 lowerAll S g c m =
-    pick (isClear (tableFault (S .table) (S .addrs) (S .word))) (lowerClear S g c m)
+    pick (isClear (tableFault (S .table) (S .addrs) (S .word))) (lowerAsked S g c m)
     (run (Table (tableFault (S .table) (S .addrs) (S .word))) g c m)
 
 -- the lent marks after an answer: where nodes were visited, 1 at each that was reached
 unfoldable pub marked : Source → List ℕ → List ℕ → List ℕ → Answer → List ℕ
 marked S g c z (Done n k) = lowered S g c .seen ++ drop (nodes (S .table) + 1) z
 marked S g c z (Table f) = z
+marked S g c z NothingAsked = z
 marked S g c z GateRoom = z
 marked S g c z BitRoom = z
 marked S g c z ConstraintRoom = z
 marked S g c z (ZeroDivisor k) = lowered S g c .seen ++ drop (nodes (S .table) + 1) z
 
--- a table is accepted, and the lent buffers have room for the sums
+-- a table is accepted and asks something, and the lent buffers have room for the sums
 pub record Accepted (S : Source) (g c m : List ℕ) : Type 0 where
   pub clear : tableFault (S .table) (S .addrs) (S .word) ≡ Clear
+  pub asked : asks (S .table) ≡ true
   pub gates : sums S .gates ≤ records g
   pub map : sums S .map ≤ length m
   pub constraints : sums S .constraints ≤ conRecords c

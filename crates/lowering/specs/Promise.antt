@@ -29,8 +29,8 @@ Right S t =
     (v : List ℕ) → evalWords (S .table) (S .addrs) (S .word) v .answer ≡ words.Done
     → Lowered (recipe S) (meaning S (evalWords (S .table) (S .addrs) (S .word) v .values)) t
 
--- demand 3: what is made is small, with the reached nodes marked; an accepted table with room is refused only at a divisor that is known to be
--- zero; and each node adds at most its ceiling of gates
+-- demand 3: what is made is small, with the reached nodes marked; an accepted table that asks something, with room, is refused only at a divisor that
+-- is known to be zero; and each node adds at most its ceiling of gates
 pub record Bounded (S : Source) (g c m : List ℕ) (a : Answer) (g′ c′ m′ : List ℕ) : Type 0 where
   pub made : (n k : ℕ) → a ≡ Done n k → (z : List ℕ) × Small (recipe S) (start S g c) (said S g′ c′ m′ n k z)
   pub refused : Accepted S g c m → (number a ≡ 0) ⊎ ((number a ≡ 10) × Halted (recipe S) (lowered S g c))

@@ -1,9 +1,10 @@
-// The lowering of any table: refusals 1 to 6, then 7, 8, 9, then 10; on success gates, constraints and bit map.
+// The lowering of any table: refusals 1 to 6, then 14, then 7, 8, 9, then 10; on success gates, constraints and bit map.
 ghost use mathlib.Core.Path.{_≡_};
+ghost use mathlib.Core.Bool.{true};
 ghost use Prim.Native.Nat.{_≤_};
 ghost use lib.ListN.{length};
 ghost use Rattle.table.specs.declared.Fault.the-variants as fault;
-ghost use Rattle.table.specs.Sheet.{tableFault};
+ghost use Rattle.table.specs.Sheet.{tableFault, asks};
 ghost use Rattle.nodes.specs.Source.{source};
 ghost use Rattle.lowering.specs.Lower as spec;
 ghost use Rattle.lowering.specs.Lower.{run, lowered, ended, lowerClear, marked, Accepted};
@@ -18,6 +19,7 @@ use table::Unit;
 pub enum Answer {
     Done { gates: usize, constraints: usize },
     Table(Fault),
+    NothingAsked,
     GateRoom,
     BitRoom,
     ConstraintRoom,
@@ -31,6 +33,7 @@ pub fn number(a: Answer) -> u64
     match a {
         Answer::Done { .. } => 0,
         Answer::Table(f) => table::sheet::number(f),
+        Answer::NothingAsked => 14,
         Answer::GateRoom => 7,
         Answer::BitRoom => 8,
         Answer::ConstraintRoom => 9,
@@ -45,6 +48,7 @@ pub fn node(a: Answer) -> usize
     match a {
         Answer::Done { .. } => 0,
         Answer::Table(f) => table::sheet::node(f),
+        Answer::NothingAsked => 0,
         Answer::GateRoom => 0,
         Answer::BitRoom => 0,
         Answer::ConstraintRoom => 0,
@@ -72,6 +76,11 @@ pub fn count(a: Answer) -> Counts
             constraints: k,
         },
         Answer::Table(_) => Counts {
+            done: false,
+            gates: 0,
+            constraints: 0,
+        },
+        Answer::NothingAsked => Counts {
             done: false,
             gates: 0,
             constraints: 0,
@@ -141,7 +150,7 @@ fn lower_room(
     }
 }
 
-// A table without fault: room first.
+// A table without fault that asks something: room first.
 fn lower_clear(
     table: &[u64],
     addrs: &[u64],
@@ -152,7 +161,7 @@ fn lower_clear(
     map: &mut [u32],
     marks: &mut [u8],
 ) -> Answer
-    requires { ⌜ tableFault (now table) (now addrs) word ≡ fault.Clear ⌝ }
+    requires { ⌜ (tableFault (now table) (now addrs) word ≡ fault.Clear) × (asks (now table) ≡ true) ⌝ }
     requires { ⌜ (514 ≤ length (now offs)) × (513 ≤ length (now marks)) ⌝ }
     ensures { λ r. ⌜ run r (now (gates .exit)) (now (constraints .exit)) (now (map .exit)) ≡ lowerClear (source (now (table .entry)) (now (addrs .entry)) word) (now (gates .entry)) (now (constraints .entry)) (now (map .entry)) ⌝ }
     ensures { λ r. ⌜ now (marks .exit) ≡ marked (source (now (table .entry)) (now (addrs .entry)) word) (now (gates .entry)) (now (constraints .entry)) (now (marks .entry)) r ⌝ }
@@ -188,8 +197,13 @@ pub fn lower_marked(
     ensures { λ r. ⌜ now (marks .exit) ≡ marked (source (now (table .entry)) (now (addrs .entry)) word) (now (gates .entry)) (now (constraints .entry)) (now (marks .entry)) r ⌝ }
 {
     let f = table::sheet::check_table(table, addrs, word);
-    if !table::sheet::clear(f) {
+    let sound = table::sheet::clear(f);
+    let asked = table::sheet::asks(table);
+    if !sound {
         return Answer::Table(f);
+    }
+    if !asked {
+        return Answer::NothingAsked;
     }
     let mut offs = [0usize; 514];
     lower_clear(

@@ -37,6 +37,7 @@ or one line, refused NUMBER NODE (NODE is 0 where no single node is at fault):
 11 GATE LIST       to an evaluator: what is given is no gate list
 12 VALUE ROOM      to an evaluator: too few places for the values
 13 INPUT           to an evaluator: a given value is out of range
+14 NOTHING ASKED   no bad node, so no question: were lines lost on the way?
 Where the last line is neither done nor refused there is no answer: standard
 error says what failed. The exit status is 0 even then, so test that line.
 ",

@@ -24,7 +24,7 @@ use Rattle.text.specs.Write.{Offsets, constraintSize, gateCount, nodeCount, con
 use Rattle.text.proofs.Answers.{TableRead, table-read, refused-read, plainOf}
 use Rattle.text.proofs.Sizes.{room}
 use Rattle.lowering.specs.declared.lower.Answer.{Answer}
-use Rattle.lowering.specs.declared.lower.Answer.the-variants.{Done, Table, GateRoom, BitRoom, ConstraintRoom, ZeroDivisor}
+use Rattle.lowering.specs.declared.lower.Answer.the-variants.{Done, Table, NothingAsked, GateRoom, BitRoom, ConstraintRoom, ZeroDivisor}
 use Rattle.nodes.specs.Source.{Source, source, listed}
 use Rattle.lowering.specs.Lower.{Run, run, number, node, countsOf, lowered, lowerAll, marked, Accepted}
 use Rattle.lowering.specs.Promise.{Promise}
@@ -157,6 +157,7 @@ refused-lines : (S : Source) (g c m z : List ℕ) (a : Answer) → countsOf a .d
 unfolding answerLines refusal
 refused-lines S g c m z (Done n k) h = absurd (let i : _≡_ {A = ℕ} 0 1 = cc in omega arith)
 refused-lines S g c m z (Table f) h = refl
+refused-lines S g c m z NothingAsked h = refl
 refused-lines S g c m z GateRoom h = refl
 refused-lines S g c m z BitRoom h = refl
 refused-lines S g c m z ConstraintRoom h = refl
@@ -165,6 +166,7 @@ refused-lines S g c m z (ZeroDivisor k) h = refl
 is-done : (a : Answer) → countsOf a .done ≡ true → a ≡ Done (countsOf a .gates) (countsOf a .constraints)
 is-done (Done n k) h = refl
 is-done (Table f) h = absurd (let i : _≡_ {A = ℕ} 0 1 = cc in omega arith)
+is-done NothingAsked h = absurd (let i : _≡_ {A = ℕ} 0 1 = cc in omega arith)
 is-done GateRoom h = absurd (let i : _≡_ {A = ℕ} 0 1 = cc in omega arith)
 is-done BitRoom h = absurd (let i : _≡_ {A = ℕ} 0 1 = cc in omega arith)
 is-done ConstraintRoom h = absurd (let i : _≡_ {A = ℕ} 0 1 = cc in omega arith)
@@ -205,7 +207,7 @@ module _ (S : Source) (g0 c0 m0 z0 o g1 c1 m1 : List ℕ) (a : Answer) (g c m z 
         let kg : length g ≡ length g0 = lg ∙ (ap length eg ∙ length-replicate (length g0) 0) in
         let kc : length c ≡ length c0 = lc ∙ (ap length ec ∙ length-replicate (length c0) 0) in
         let km : length m ≡ length m0 = lm ∙ (ap length em ∙ length-replicate (length m0) 0) in (
-          record { clear = of .accepted .clear; gates = omega (arith, of .accepted .gates); map = omega (arith, of .accepted .map); constraints = omega (arith, of .accepted .constraints) },
+          record { clear = of .accepted .clear; asked = of .accepted .asked; gates = omega (arith, of .accepted .gates); map = omega (arith, of .accepted .map); constraints = omega (arith, of .accepted .constraints) },
           (omega (arith, of .gates), omega (arith, of .constraints)),
           record { gates = kg ∙ l .gates; constraints = kc ∙ l .constraints; map = km ∙ l .map; marks = lz ∙ l .marks; offsets = l .offsets },
         )

@@ -12,7 +12,7 @@ use Rattle.text.specs.Plain.Plain.{plain}
 use Rattle.text.specs.Read.{flat}
 use Rattle.text.specs.Write.{constraintSize, output, refusedLine}
 use Rattle.lowering.specs.declared.lower.Answer.{Answer}
-use Rattle.lowering.specs.declared.lower.Answer.the-variants.{Done, Table, GateRoom, BitRoom, ConstraintRoom, ZeroDivisor}
+use Rattle.lowering.specs.declared.lower.Answer.the-variants.{Done, Table, NothingAsked, GateRoom, BitRoom, ConstraintRoom, ZeroDivisor}
 use Rattle.nodes.specs.Source.{Source, source, listed, totalOf}
 use Rattle.lowering.specs.Lower.{number, node, Run, lowered, lowerAll}
 
@@ -61,6 +61,7 @@ refusal a = refusedLine (number a) (node a)
 unfoldable pub answerLines : Source → List ℕ → List ℕ → List ℕ → List ℕ → Answer → List ℕ
 answerLines S g c m z (Done n k) = doneLines S n k g c m z
 answerLines S g c m z (Table f) = refusal (Table f)
+answerLines S g c m z NothingAsked = refusal NothingAsked
 answerLines S g c m z GateRoom = refusal GateRoom
 answerLines S g c m z BitRoom = refusal BitRoom
 answerLines S g c m z ConstraintRoom = refusal ConstraintRoom

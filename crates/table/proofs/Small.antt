@@ -1,12 +1,12 @@
 -- Edges of the sheet.
 use mathlib.Core.Path.{_≡_, refl}
 use mathlib.Core.List.{List, [], _∷_}
-use mathlib.Core.Bool.{true}
+use mathlib.Core.Bool.{true, false}
 use Prim.Native.Nat.{ℕ, zero, suc}
 use Rattle.loops.specs.Loop.{pick, first}
 use Rattle.table.specs.declared.Fault.the-variants.{Clear, Size, Address, Kind, NotLowered, Operand, Sort}
 use Rattle.table.specs.Node.{fieldAt}
-use Rattle.table.specs.Sheet.{sizeGood, isAt, addressBad, addressesBad, operandsGood, sortGood, sortsGood, faultOf, nodeFault, nodeBad, nodesFault, tableFault}
+use Rattle.table.specs.Sheet.{sizeGood, isAt, addressBad, addressesBad, operandsGood, sortGood, sortsGood, faultOf, nodeFault, nodeBad, nodesFault, tableFault, asksAt, asks}
 
 -- width above 64 is 6, a missing operand of that node comes first; a const of width 0 is 6; kind 24 is 3, kind 19 is 4 whatever else is wrong; no nodes pass;
 -- 1 comes before 2, and a fault of a lower node before one of a higher
@@ -32,3 +32,12 @@ inputs (suc n) = 2 ∷ 1 ∷ 0 ∷ 0 ∷ 0 ∷ 0 ∷ inputs n
 pub many : (sizeGood (inputs 512) [] 1 ≡ true) × (tableFault (inputs 513) [] 1 ≡ Size)
 unfolding inputs pick sizeGood tableFault
 many = (refl, refl)
+
+-- no nodes ask nothing, nor does an input, nor a bad node that is cut off by one number; the whole bad node asks, wherever it stands
+pub asking : (asks [] ≡ false)
+    × (asks (2 ∷ 1 ∷ 0 ∷ 0 ∷ 0 ∷ 0 ∷ []) ≡ false)
+    × (asks (2 ∷ 1 ∷ 0 ∷ 0 ∷ 0 ∷ 0 ∷ 5 ∷ 1 ∷ 1 ∷ 0 ∷ 0 ∷ []) ≡ false)
+    × (asks (2 ∷ 1 ∷ 0 ∷ 0 ∷ 0 ∷ 0 ∷ 5 ∷ 1 ∷ 1 ∷ 0 ∷ 0 ∷ 0 ∷ []) ≡ true)
+    × (asks (2 ∷ 1 ∷ 0 ∷ 0 ∷ 0 ∷ 0 ∷ 5 ∷ 1 ∷ 1 ∷ 0 ∷ 0 ∷ 0 ∷ 2 ∷ 1 ∷ 0 ∷ 0 ∷ 0 ∷ 0 ∷ []) ≡ true)
+unfolding pick first fieldAt asksAt asks
+asking = (refl, refl, refl, refl, refl)

@@ -17,7 +17,7 @@ use Rattle.table.specs.declared.Fault.the-variants.{Clear, Size, Address
 use Rattle.table.specs.declared.Node.{Node}
 use Rattle.table.specs.Kind.{CONST, INPUT, STATE, NOT, BAD, AND, EXT, EQ, ADD, ITE, SUB, ULT, MUL, DIVU, REM, READ, WRITE, OR, SLL, SRL, named, lowered, mayUseA, usesA, usesB, usesC, usesImm, evenly, compares}
 use Rattle.table.specs.Node.{fieldAt, nodes, nodeAt, kindOf, widthOf, aOf, bOf, cOf, Narrow, Fine}
-use Rattle.table.specs.Sheet.{isClear, sizeGood, isAt, addressBad, addressesBad, operand, operandsGood, sortGood, sortsGood, faultOf, nodeFault, nodeBad, nodesFault, tableFault}
+use Rattle.table.specs.Sheet.{isClear, sizeGood, isAt, addressBad, addressesBad, operand, operandsGood, sortGood, sortsGood, faultOf, nodeFault, nodeBad, nodesFault, tableFault, asksAt, asks}
 use Rattle.table.proofs.field.Laws.{field-out}
 
 -- a test that stands before a fault was passed
@@ -310,3 +310,16 @@ module _ (t l : List ℕ) (w : ℕ) (e : tableFault t l w ≡ Clear) where
 
 pub checked : (t l : List ℕ) (w : ℕ) (f : Fault) (r : Bool) → f ≡ tableFault t l w → r ≡ isClear f → r ≡ true → Fine t l
 checked t l w f r e c h = fine t l w (sym e ∙ is-clear f (ap not (sym c ∙ h)))
+
+-- a table asks exactly if one of its nodes is bad
+pub asked : (t : List ℕ) → asks t ≡ true → (i : ℕ) × (i < nodes t) × (kindOf t (i + 1) ≡ BAD)
+unfolding asks asksAt
+asked t e =
+    let h : first (nodes t) (asksAt t) < nodes t = ltb-true (first (nodes t) (asksAt t)) (nodes t) e in
+    (first (nodes t) (asksAt t), h, eqb-true (kindOf t (first (nodes t) (asksAt t) + 1)) BAD (first-true (asksAt t) (nodes t) h))
+
+pub unasked : (t : List ℕ) → asks t ≡ false → (i : ℕ) → i < nodes t → kindOf t (i + 1) ≡ BAD → ⊥
+unfolding asks asksAt
+unasked t e i h =
+    let n : nodes t ≤ first (nodes t) (asksAt t) = ltb-false (first (nodes t) (asksAt t)) (nodes t) e in
+    eqb-false (kindOf t (i + 1)) BAD (first-below (asksAt t) (nodes t) i (omega arith))

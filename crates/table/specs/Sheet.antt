@@ -1,4 +1,4 @@
--- The refusal sheet, 1 to 6.
+-- The refusal sheet, 1 to 6, and whether a table asks anything.
 use mathlib.Core.List.{List}
 use mathlib.Core.Bool.{Bool, not, _&&_, _||_}
 use Prim.Native.Nat.{ℕ, _+_, _%_, _^_}
@@ -9,7 +9,7 @@ use Rattle.table.specs.declared.Fault.{Fault}
 use Rattle.table.specs.declared.Fault.the-variants.{Clear, Size, Address, Kind, NotLowered, Operand, Sort}
 use Rattle.table.specs.declared.Node.{Node}
 use Rattle.table.specs.Kind.{CONST, INPUT, STATE, NOT, BAD, EXT, ITE, READ, WRITE, named, lowered, mayUseA, usesA, usesB, usesC, usesImm, evenly, compares}
-use Rattle.table.specs.Node.{widthOf, nodeAt, nodes}
+use Rattle.table.specs.Node.{kindOf, widthOf, nodeAt, nodes}
 
 -- the sheet's number of a fault, and the node beside it; 0 is no fault
 abbrev pub number : Fault → ℕ
@@ -109,3 +109,10 @@ tableFault t l w =
     pick (not (sizeGood t l w)) Size
     (pick (addressesBad l w) Address
     (nodesFault t w))
+
+-- a table asks by its bad nodes: one is enough. A record cut off at the end is no node
+unfoldable pub asksAt : List ℕ → ℕ → Bool
+asksAt t i = eqb (kindOf t (i + 1)) BAD
+
+unfoldable pub asks : List ℕ → Bool
+asks t = ltb (first (nodes t) (asksAt t)) (nodes t)

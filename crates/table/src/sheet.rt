@@ -216,3 +216,19 @@ pub fn check_table(table: &[u64], addrs: &[u64], w: u64) -> Fault
     }
     nodes_fault(table, w)
 }
+
+// Whether a table asks anything: it has a bad node. A record cut off at the end is no node.
+pub fn asks(table: &[u64]) -> bool
+    ensures { λ r. ⌜ r ≡ sheet.asks (now (table .entry)) ⌝ }
+{
+    let whole = table.len() / 6;
+    let mut i = 0;
+    while i < whole {
+        let node = node_at(table, i + 1);
+        if node.kind == BAD {
+            return true;
+        }
+        i += 1;
+    }
+    false
+}

@@ -138,7 +138,8 @@ fn eval_clear(
     }
     let i = first_bad_input(table, addrs, w, offsets, values);
     if i < m {
-        return Answer::Input(i + 1);
+        let node = i + 1;
+        return Answer::Input(node);
     }
     eval_all(table, addrs, offsets, values);
     Answer::Done

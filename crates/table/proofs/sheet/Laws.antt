@@ -15,9 +15,9 @@ use Rattle.loops.proofs.Loop.{pick-true, pick-false, first-more, first-found, f
 use Rattle.table.specs.declared.Fault.{Fault}
 use Rattle.table.specs.declared.Fault.the-variants.{Clear, Size, Address, Kind, NotLowered, Operand, Sort}
 use Rattle.table.specs.declared.Node.{Node}
-use Rattle.table.specs.Kind.{named, lowered}
-use Rattle.table.specs.Node.{nodes}
-use Rattle.table.specs.Sheet.{isClear, sizeGood, isAt, addressBad, addressesBad, operandsGood, sortsGood, faultOf, nodeFault, nodeBad, nodesFault, tableFault}
+use Rattle.table.specs.Kind.{BAD, named, lowered}
+use Rattle.table.specs.Node.{kindOf, nodeAt, nodes}
+use Rattle.table.specs.Sheet.{isClear, sizeGood, isAt, addressBad, addressesBad, operandsGood, sortsGood, faultOf, nodeFault, nodeBad, nodesFault, tableFault, asksAt, asks}
 
 -- a shift tests a bound
 pub fits-small : (x k : ℕ) → eqb (x / 2 ^ k) 0 ≡ ltb x (2 ^ k)
@@ -113,3 +113,21 @@ module _ (t l : List ℕ) (w : ℕ) (r : Bool) (e : r ≡ sizeGood t l w) where
     pub table-nodes : (f : Fault) → s ≡ false → f ≡ nodesFault t w → f ≡ tableFault t l w
     unfolding tableFault
     table-nodes f b n = pass r _ _ _ _ e h (n ∙ sym (pick-false _ _ _ (sym q ∙ b)))
+
+module _ (t : List ℕ) (i : ℕ) (e : i ≡ first i (asksAt t)) where
+  module _ (d : Node) (q : d ≡ nodeAt t (i + 1)) where
+    is-kind : d .kind ≡ kindOf t (i + 1)
+    is-kind = ap (λ (x : Node). x .kind) q
+
+    pub asks-found : i < nodes t → d .kind ≡ BAD → true ≡ asks t
+    unfolding asks asksAt
+    asks-found h b =
+        rw (← first-found (asksAt t) (nodes t) i true h e (sym (eq-eqb (kindOf t (i + 1)) BAD (sym is-kind ∙ b))) refl, lt-ltb i (nodes t) h)
+
+    pub asks-more : (d .kind ≡ BAD → ⊥) → i + 1 ≡ first (i + 1) (asksAt t)
+    unfolding asksAt
+    asks-more h = first-more (asksAt t) i false e (sym (ne-eqb (kindOf t (i + 1)) BAD (λ b. h (is-kind ∙ b)))) refl
+
+  pub asks-done : nodes t ≤ i → i ≤ nodes t → false ≡ asks t
+  unfolding asks
+  asks-done h m = rw (← first-done (asksAt t) i (nodes t) h m e, le-ltb i (nodes t) h)

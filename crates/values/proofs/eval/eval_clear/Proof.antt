@@ -17,8 +17,8 @@ returns c = clear-room _ _ _ _ _ (c .before .before .before .offsets .ensures .0
 first-bad-input-requires : tie.Need-first-bad-input-requires
 first-bad-input-requires c κs = let p = c .before .before .before .before .before .before .before .before .before .before .before .pre in record { fine = p .0; offsets = stored _ _ _ _ _ _ (omega (arith, p .0 .few, p .1)) (c .before .before .before .before .before .offsets .ensures .1) }
 
-add-t19 : tie.Need-add-t19
-add-t19 c = search needs
+add-node : tie.Need-add-node
+add-node c = search needs
 
 same-length-2 : tie.Need-same-length-2
 same-length-2 c = search needs
@@ -49,7 +49,7 @@ eval-clear-spec =
     same-length
     returns
     first-bad-input-requires
-    add-t19
+    add-node
     same-length-2
     same-length-3
     returns-2
