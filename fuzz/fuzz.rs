@@ -33,7 +33,7 @@ impl Random {
     fn any(&mut self) -> u64 {
         match self.below(8) {
             0 => self.next(),
-            1 => self.pick(&[16, 17, 18, 19, 20, 21, 22, 23, 24, 63, 64, 65, 127, 255, 256, 512, u32::MAX as u64, 1 << 32, 1 << 63, u64::MAX]),
+            1 => self.pick(&[16, 17, 18, 19, 20, 21, 22, 23, 24, 25, 63, 64, 65, 127, 255, 256, 512, u32::MAX as u64, 1 << 32, 1 << 63, u64::MAX]),
             2 => self.below(64),
             _ => self.below(8),
         }
@@ -155,6 +155,24 @@ fn amount(r: &mut Random, last: u64, width: u64, b: u64) -> Vec<[u64; 6]> {
     }
 }
 
+/// An extension of any word: to a width that others have, by no bits, by any number, to 64; now and then narrower, which is the fault.
+fn extension(r: &mut Random, kind: u64, widths: &[u64], usual: u64, word: u64) -> [u64; 6] {
+    let words: Vec<u64> = (1..=widths.len() as u64).filter(|&k| (1..=64).contains(&widths[k as usize - 1])).collect();
+    if words.is_empty() {
+        return [kind, 64, 0, 0, 0, 0];
+    }
+    let a = r.pick(&words);
+    let of = widths[a as usize - 1];
+    let width = match r.below(32) {
+        0 => r.below(of),
+        1..=7 => of,
+        8..=14 => of + r.below(65 - of),
+        15..=18 => 64,
+        _ => r.pick(&[usual, word]).max(of),
+    };
+    [kind, width, a, 0, 0, 0]
+}
+
 /// A node that keeps the sorts where operands for it are there.
 fn good_node(r: &mut Random, widths: &[u64], usual: u64, word: u64) -> [u64; 6] {
     let of = |r: &mut Random, width: u64| {
@@ -171,12 +189,12 @@ fn good_node(r: &mut Random, widths: &[u64], usual: u64, word: u64) -> [u64; 6] 
         _ => [2, width, 0, 0, 0, 0],
     };
     let width = r.pick(&[usual, usual, usual, 1, word, 0]);
-    let kind = r.pick(&[1, 2, 3, 4, 5, 6, 7, 8, 9, 10, 11, 12, 13, 14, 15, 16, 17, 18, 20, 20, 21, 21]);
+    let kind = r.pick(&[1, 2, 3, 4, 5, 6, 7, 8, 9, 10, 11, 12, 13, 14, 15, 16, 17, 18, 20, 20, 21, 21, 24, 24]);
     let node = match kind {
         1..=3 => return if r.one_in(8) { [3, width, of(r, width), 0, 0, 0] } else { leaf(r, width) },
         4 => [4, width, of(r, width), 0, 0, 0],
         5 => [5, 1, of(r, 1), 0, 0, 0],
-        7 => [7, 64, of(r, usual), 0, 0, 0],
+        7 | 24 => extension(r, kind, widths, usual, word),
         8 | 12 => {
             let v = r.pick(&[usual, word, 1]);
             [kind, 1, of(r, v), of(r, v), 0, 0]
@@ -187,9 +205,9 @@ fn good_node(r: &mut Random, widths: &[u64], usual: u64, word: u64) -> [u64; 6] 
         _ => [kind, width, of(r, width), of(r, width), 0, 0],
     };
     // an operand that is missing, or a word's operation on a memory: a leaf in its place, now and then the fault
-    let used = [1, 2, 3].map(|i| i == 1 || (i == 2 && !matches!(kind, 4 | 5 | 7)) || (i == 3 && matches!(kind, 10 | 17)));
+    let used = [1, 2, 3].map(|i| i == 1 || (i == 2 && !matches!(kind, 4 | 5 | 7 | 24)) || (i == 3 && matches!(kind, 10 | 17)));
     let missing = (0..3).any(|i| used[i] && node[2 + i] == 0);
-    if (missing || (width == 0 && !matches!(kind, 5 | 7 | 8 | 10 | 12 | 16 | 17))) && !r.one_in(32) {
+    if (missing || (width == 0 && !matches!(kind, 5 | 7 | 8 | 10 | 12 | 16 | 17 | 24))) && !r.one_in(32) {
         let width = r.pick(&[width, 1, word, 0]);
         return leaf(r, width);
     }

@@ -29,6 +29,7 @@ const WRITE: u64 = 17;
 const OR: u64 = 18;
 const SLL: u64 = 20;
 const SRL: u64 = 21;
+const SEXT: u64 = 24;
 
 fn below(x: u64, width: u64) -> bool {
     width >= 64 || x >> width == 0
@@ -107,7 +108,7 @@ impl Table<'_> {
         }
         for k in 1..=self.nodes() {
             let d = self.node(k);
-            if !(1..=23).contains(&d.kind) {
+            if !(1..=24).contains(&d.kind) {
                 return (3, k);
             }
             if matches!(d.kind, 19 | 22 | 23) {
@@ -127,7 +128,7 @@ impl Table<'_> {
         let smaller = |x: u64| x != 0 && x < k as u64;
         let used = match d.kind {
             CONST | INPUT | STATE => 0,
-            NOT | BAD | EXT => 1,
+            NOT | BAD | EXT | SEXT => 1,
             ITE | WRITE => 3,
             _ => 2,
         };
@@ -152,7 +153,7 @@ impl Table<'_> {
             STATE => d.width <= 64 && (d.a == 0 || of(d.a) == d.width),
             NOT => word && of(d.a) == d.width,
             BAD => d.width == 1 && of(d.a) == 1,
-            EXT => d.width == 64 && of(d.a) != 0,
+            EXT | SEXT => word && of(d.a) != 0 && of(d.a) <= d.width,
             EQ | ULT => d.width == 1 && of(d.a) != 0 && of(d.a) == of(d.b),
             ITE => d.width <= 64 && of(d.a) == 1 && of(d.b) == d.width && of(d.c) == d.width,
             READ => d.width == w && of(d.a) == 0 && of(d.b) == w,
@@ -255,6 +256,10 @@ pub fn eval_words(t: Table, values: &mut [u64]) -> Answer {
                     DIVU => x.checked_div(y).unwrap_or(cut(u64::MAX, d.width)),
                     REM => x.checked_rem(y).unwrap_or(x),
                     OR => x | y,
+                    SEXT => {
+                        let above = 64 - t.node(d.a as usize).width;
+                        cut(((x << above) as i64 >> above) as u64, d.width)
+                    }
                     _ if y >= d.width => 0,
                     SLL => cut(x << y, d.width),
                     _ => x >> y,
@@ -504,7 +509,10 @@ impl Lowering<'_> {
             _ if d.given() => (0..self.t.bits(d.width) as u32).map(|j| net.make(2, k as u32, j, 0)).collect(),
             CONST => digits(d.imm, d.width as usize),
             STATE | BAD => x,
-            EXT => [x.clone(), vec![0; 64 - x.len()]].concat(),
+            EXT | SEXT => {
+                let above = if d.kind == SEXT { x[x.len() - 1] } else { 0 };
+                [&x[..], &vec![above; d.width as usize - x.len()]].concat()
+            }
             NOT => x.iter().map(|&b| net.not(b)).collect(),
             AND => x.iter().zip(&y).map(|(&a, &b)| net.and(a, b)).collect(),
             OR => x.iter().zip(&y).map(|(&a, &b)| net.or(a, b)).collect(),

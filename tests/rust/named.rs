@@ -162,6 +162,16 @@ fn cut_amount(ours: &mut Ours) -> bool {
     (theirs::value(&t, &given, 3), value(&t, &given, 3, ours)) == (Some(1), Some(0))
 }
 
+/// The original's ext has no sort of its own and is always 64 wide. It stops where the width is asked for, and else goes on with the longer word.
+fn short_ext(ours: &mut Ours) -> bool {
+    let asked = table(&[(INPUT, 1, [0; 3], 0), (EXT, 1, [1, 0, 0], 0), (BAD, 1, [2, 0, 0], 0)]);
+    let unasked = table(&[(INPUT, 1, [0; 3], 0), (EXT, 1, [1, 0, 0], 0), (EQ, 1, [2, 2, 0], 0), (BAD, 1, [3, 0, 0], 0)]);
+    let bits = |answer: &Answer| answer.nodes[1].as_ref().map(|bits| bits.count);
+    let longer = matches!(theirs::lower(&unasked, &[zeros(&unasked)]), Theirs::Lowered(answer, _) if bits(&answer) == Some(64));
+    let here = ours.lower(&unasked, &[zeros(&unasked)]).is_ok_and(|answer| bits(&answer) == Some(1));
+    stops(&asked, "replacement.len() == 1") && lowered(&asked, ours) && longer && here
+}
+
 /// The original makes nothing of it, and whoever looks for a bad state finds none.
 fn nothing_asked(ours: &mut Ours) -> bool {
     let t = table(&[(INPUT, 1, [0; 3], 0)]);
@@ -173,7 +183,7 @@ type Check = fn(&mut Ours) -> bool;
 
 /// Says how many are as they are said to be, and which are not.
 pub fn run(ours: &mut Ours) -> bool {
-    let all: [(&str, Check); 15] = [
+    let all: [(&str, Check); 16] = [
         ("a memory", memory),
         ("a sub at width 1", narrow_sub),
         ("known bits of ult", known_by_ult),
@@ -188,6 +198,7 @@ pub fn run(ours: &mut Ours) -> bool {
         ("a shift by an unknown amount", unknown_amount),
         ("a shift by the width", wide_amount),
         ("a shift by 2^32", cut_amount),
+        ("an ext that is not 64 wide", short_ext),
         ("a table that asks nothing", nothing_asked),
     ];
     let wrong: Vec<&str> = all.iter().filter(|(_, check)| !check(ours)).map(|(name, _)| *name).collect();

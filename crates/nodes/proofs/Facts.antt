@@ -130,16 +130,16 @@ share-asks S o long k x p q h some less same e f =
     } in
     rw (e, f) i
 
-share-along : (S : Source) (k x : ℕ) (s : Net) (c : List ℕ) (nc stop i : ℕ) (m : List ℕ)
-    → _≡_ {A = Core} (coreAt s c nc (shareAt (offOf S x) (wideOf S x) (offOf S k) (wideOf S k) i m) stop) (wordStep S k (shareWord S x) i (coreAt s c nc m stop))
+share-along : (S : Source) (k a x : ℕ) (s : Net) (c : List ℕ) (nc stop i : ℕ) (m : List ℕ)
+    → _≡_ {A = Core} (coreAt s c nc (shareAt a (offOf S x) (wideOf S x) (offOf S k) (wideOf S k) i m) stop) (wordStep S k (shareWord S a x) i (coreAt s c nc m stop))
 unfolding shareAt wordStep stored shareWord
-share-along S k x s c nc stop i m = refl
+share-along S k a x s c nc stop i m = refl
 
-pub share-turn : (S : Source) (k x : ℕ) (p q : Place) (m m′ : List ℕ) → p ≡ placeOf S k → q ≡ placeOf S x → m′ ≡ iter (p .words) (shareAt (q .off) (q .wide) (p .off) (p .wide)) m
-    → Mapped (eachWord S k (shareWord S x)) m m′
-share-turn S k x p q m m′ h j e = λ s c nc stop.
+pub share-turn : (S : Source) (k a x : ℕ) (p q : Place) (m m′ : List ℕ) → p ≡ placeOf S k → q ≡ placeOf S x → m′ ≡ iter (p .words) (shareAt a (q .off) (q .wide) (p .off) (p .wide)) m
+    → Mapped (eachWord S k (shareWord S a x)) m m′
+share-turn S k a x p q m m′ h j e = λ s c nc stop.
     ap {B = Core} (λ (l : List ℕ). coreAt s c nc l stop) (rw (h, j) at e)
-    ∙ along {B = Core} (λ (l : List ℕ). coreAt s c nc l stop) (shareAt (offOf S x) (wideOf S x) (offOf S k) (wideOf S k)) (wordStep S k (shareWord S x)) (share-along S k x s c nc stop) (wordsOf S k) m
+    ∙ along {B = Core} (λ (l : List ℕ). coreAt s c nc l stop) (shareAt a (offOf S x) (wideOf S x) (offOf S k) (wideOf S k)) (wordStep S k (shareWord S a x)) (share-along S k a x s c nc stop) (wordsOf S k) m
 
 -- an ite's operands
 pub record Sided (S : Source) (k : ℕ) : Type 0 where
@@ -200,6 +200,9 @@ module _ (S : Source) (o : List ℕ) (long k : ℕ) (h : Stands S o long k) wher
           offset (nodeOf S k .c) (omega (arith, node .operands .c)) .0,
         )
 
+    pub a-in : d .a ≤ nodes (S .table)
+    a-in = rw same (omega (arith, node .operands .a, h .is .high))
+
     pub cond-asks : d .kind ≡ ITE → (d .a < length o) × (getD o (d .a) 0 < long)
     cond-asks = rw same (λ e. let q = offset (nodeOf S k .a) (omega (arith, sided e .a-less)) in (q .0, omega (arith, q .1, cond-in e)))
 
@@ -252,7 +255,7 @@ module _ (S : Source) (o : List ℕ) (long k : ℕ) (h : Stands S o long k) wher
           (λ _. (sided f .b-some, sided f .b-less, sym (same-words S (nodeOf S k .b) k (sided f .left)))))
 
       pub ite-known : d .kind ≡ ITE → (r : ℕ) → r ≡ pick (eqb (d .kind) ITE && eqb cond 0) (d .c) (d .b) → (b : Bool) → b ≡ isKnown cond → b ≡ true → (s : Net) (m′ : List ℕ)
-          → Mapped (eachWord S k (shareWord S r)) m m′ → Turned (iteOwn S k) s m s m′
+          → Mapped (eachWord S k (shareWord S 0 r)) m m′ → Turned (iteOwn S k) s m s m′
       unfolding iteOwn
       ite-known e r q b u t s m′ f = λ c nc stop.
           rw (second-path r q) at (f s c nc stop)

@@ -4,7 +4,6 @@ use mathlib.Core.List.{List}
 use mathlib.Core.Bool.{Bool, true}
 use Prim.Native.Nat.{ℕ, suc, _+_, _-_, _*_, _≤_, _<_}
 use native.Mathlib.Omega.{arith}
-use native.Mathlib.Decide.{decLt}
 use lib.ListN.{length, getD, set, length-set}
 use lib.Seq.{getD-set-same}
 use Rattle.loops.specs.Loop.{iter}
@@ -25,16 +24,18 @@ use Rattle.words.specs.declared.each.Bitwise.{Bitwise}
 use Rattle.words.specs.declared.each.Bitwise.the-variants.{Not, Choose}
 use Rattle.words.specs.declared.shift.Direction.{Direction}
 use Rattle.words.specs.Num.{blank}
-use Rattle.words.specs.Each.{Word, bitCost, bitBelow, eachBit, EachLaw, Put}
+use Rattle.words.specs.Each.{Word, bitCost, bitBelow, eachBit, EachLaw}
 use Rattle.words.specs.Add.{addWords, addCost}
-use Rattle.words.specs.Sub.{subWords, subCost, ultWords, widened, SubLaw}
+use Rattle.words.specs.Sub.{subWords, subCost, ultWords, SubLaw}
+use Rattle.words.specs.Extend.{extended}
 use Rattle.words.specs.Eq.{eqWords}
 use Rattle.words.specs.Mul.{mulWords, mulCost, MulLaw}
 use Rattle.words.specs.Shift.{shiftWords, shiftCost, ShiftLaw}
-use Rattle.words.proofs.NumLaws.{blank-long, blank-at}
+use Rattle.words.proofs.NumLaws.{blank-long}
 use Rattle.words.proofs.Sums.{sum-most}
-use Rattle.words.proofs.EachLaws.{each-law, put-law, below-set, below-more}
+use Rattle.words.proofs.EachLaws.{each-law, below-set, below-more}
 use Rattle.words.proofs.AddLaws.{AddLaw, add-law, cost-three}
+use Rattle.words.proofs.ExtendLaws.{extend-law}
 use Rattle.words.proofs.SubLaws.{sub-law, sub-four, ult-law}
 use Rattle.words.proofs.EqLaws.{eq-law, eq-three}
 use Rattle.words.proofs.MulLaws.{mul-law}
@@ -64,16 +65,9 @@ pub const-made : (s : Net) (a w : ℕ) → w ≤ 65 → WordMade s Nothing w 0 (
 const-made s a w small =
     still (λ b two i j l. let p : digits.Put a blank w (putDigits a w blank) = digits.put-law a w blank (omega (arith, blank-long)) in omega (arith, p .there j l, digit-lt a j))
 
--- shared bits, and above them known false
-pub share-made : (s : Net) (A : List ℕ) (v w : ℕ) → v ≤ 65 → WordMade s (λ b. Below b A v) w 0 (asIs s (widened v A))
-share-made s A v w small = still (λ b two i j l. one b two i j (decLt j v))
-  where
-    p : Put 0 A blank v (widened v A)
-    p = put-law 0 A blank v (omega (arith, blank-long))
-
-    one : (b : ℕ) → 2 ≤ b → Below b A v → (j : ℕ) → Dec (j < v) → getD (widened v A) j 0 < b
-    one b two i j (yes l) = let e : 0 + j ≡ j = omega arith in omega (arith, i j l, rw e at (p .there j l))
-    one b two i j (no l) = omega (arith, p .above j (omega arith), blank-at j)
+-- shared bits, and above them the bit a
+pub share-made : (s : Net) (a : ℕ) (A : List ℕ) (v w : ℕ) → v ≤ 65 → w ≤ 65 → WordMade s (λ b. (2 ≤ b → a < b) × Below b A v) w 0 (asIs s (extended a v A))
+share-made s a A v w small wide = still (λ b two i. extend-law a v A small .under b w wide (i .0 two) (i .1))
 
 -- bit by bit, with at most c gates a bit
 pub each-made : (op : Bitwise) (A B : List ℕ) (v c : ℕ) (s : Net) → v ≤ 65 → ((a b : ℕ) → bitCost op a b ≤ c)

@@ -6,7 +6,7 @@ use Prim.Native.Nat.{ℕ, _+_, _-_, _*_, _/_, _%_, _^_, _<_}
 use native.Mathlib.Omega.{arith}
 use native.Mathlib.Nat.{mul-add-div-right, mul-add-mod-self-right, div-eq-of-lt, mod-eq-of-lt}
 use lib.ListN.{getD}
-use Rattle.table.specs.Node.{nodes, given}
+use Rattle.table.specs.Node.{nodes, widthOf, given}
 use Rattle.table.specs.Size.{nodeSize}
 use Rattle.values.specs.declared.Answer.the-variants.{Done}
 use Rattle.values.specs.Value.{slotValue}
@@ -28,7 +28,7 @@ use Rattle.nodes.proofs.MeaningPlaces.{Sheeted, word-bit, place-in}
 -- slot j of node k, worked out from the slots of its operands
 abbrev pub workedOut : Source → List ℕ → ℕ → ℕ → ℕ
 workedOut S x k j =
-    slotValue (S .addrs) (nodeOf S k) x (slotFrom S (nodeOf S k .a)) (slotFrom S (nodeOf S k .b)) (slotFrom S (nodeOf S k .c)) j
+    slotValue (S .addrs) (nodeOf S k) (widthOf (S .table) (nodeOf S k .a)) x (slotFrom S (nodeOf S k .a)) (slotFrom S (nodeOf S k .b)) (slotFrom S (nodeOf S k .c)) j
 
 -- x has the values of a table without fault
 pub record Evaluated (S : Source) (x : List ℕ) : Type 0 where

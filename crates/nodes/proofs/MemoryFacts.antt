@@ -12,7 +12,7 @@ use Rattle.loops.proofs.Loop.{iter-inv}
 use Rattle.table.specs.declared.Node.{Node}
 use Rattle.table.specs.Kind.{READ, WRITE, usesA, usesB, usesC}
 use Rattle.table.specs.Node.{widthOf}
-use Rattle.table.proofs.Whole.{within, Sound, Rule, is-const, is-input, is-state, is-not, is-bad, is-and, is-ext, is-eq, is-add, is-ite, is-sub, is-ult, is-mul, is-divu, is-rem, is-read, is-write, is-or, is-sll, is-srl}
+use Rattle.table.proofs.Whole.{within, Sound, Rule, is-const, is-input, is-state, is-not, is-bad, is-and, is-ext, is-eq, is-add, is-ite, is-sub, is-ult, is-mul, is-divu, is-rem, is-read, is-write, is-or, is-sll, is-srl, is-sext}
 use Rattle.netlist.specs.Net.{Net}
 use Rattle.gates.specs.declared.made.At.{At}
 use Rattle.gates.specs.Made.{Fits}
@@ -75,7 +75,7 @@ part-back to bits map n fits long =
 -- the path of a write
 pub write-path : (addrs : List ℕ) (old adr val to w : ℕ) (g g′ map shared part address value : List ℕ) (n n′ : At) → w ≤ 64 → adr + w ≤ length map → val + w ≤ length map
     → to + length addrs * w ≤ length shared → address ≡ putBits 0 (take (adr + w - adr) (drop adr map)) w blank → value ≡ putBits 0 (take (val + w - val) (drop val map)) w blank
-    → shared ≡ iter (length addrs) (shareAt old w to w) map
+    → shared ≡ iter (length addrs) (shareAt 0 old w to w) map
     → wordOf g′ n′ part ≡ writeWords (length addrs) w addrs (take w address) (take w value) (wordOf g n (take (to + length addrs * w - to) (drop to shared)))
     → length part ≡ to + length addrs * w - to
     → wordOf g′ n′ (take to shared ++ (part ++ drop (to + length addrs * w - to) (drop to shared))) ≡ writeAt addrs old adr val to w (wordOf g n map)
@@ -105,7 +105,7 @@ access (is-state e a) = neither (inl (omega arith))
 access (is-not e a b) = neither (inl (omega arith))
 access (is-bad e a b) = neither (inl (omega arith))
 access (is-and e s) = neither (inl (omega arith))
-access (is-ext e a b) = neither (inl (omega arith))
+access (is-ext e s) = neither (inl (omega arith))
 access (is-eq e s) = neither (inl (omega arith))
 access (is-add e s) = neither (inl (omega arith))
 access (is-ite e a b c) = neither (inl (omega arith))
@@ -115,6 +115,7 @@ access (is-mul e s) = neither (inl (omega arith))
 access (is-or e s) = neither (inr (omega arith))
 access (is-sll e s) = neither (inr (omega arith))
 access (is-srl e s) = neither (inr (omega arith))
+access (is-sext e s) = neither (inr (omega arith))
 access (is-divu e s) = neither (inl (omega arith))
 access (is-rem e s) = neither (inl (omega arith))
 
@@ -224,7 +225,7 @@ module _ (S : Source) (o g : List ℕ) (a : At) (long k : ℕ) (h : Makes S o g 
           stored (offOf S k) (bitsOf S k) t (x .net) (x .out)
 
       shared : List ℕ → List ℕ
-      shared m = iter (wordsOf S k) (shareAt (offOf S (nodeOf S k .a)) (wideOf S (nodeOf S k .a)) (offOf S k) (wideOf S k)) m
+      shared m = iter (wordsOf S k) (shareAt 0 (offOf S (nodeOf S k .a)) (wideOf S (nodeOf S k .a)) (offOf S k) (wideOf S k)) m
 
       write-same : (s : Net) (m c : List ℕ) (nc stop : ℕ)
           → (let x : Word = writeAt (S .addrs) (offOf S (nodeOf S k .a)) (offOf S (nodeOf S k .b)) (offOf S (nodeOf S k .c)) (offOf S k) (wideOf S k) (asIs s m) in
@@ -246,4 +247,4 @@ module _ (S : Source) (o g : List ℕ) (a : At) (long k : ℕ) (h : Makes S o g 
       write-turn s m s′ m′ u = λ c nc stop.
           ap {B = Core} (λ (x : Word). coreAt (x .net) c nc (x .out) stop) (rw (q, a-at, b-at, c-at) at u)
           ∙ write-same s m c nc stop
-          ∙ ap (written m) (share-turn S k (nodeOf S k .a) (placeOf S k) (placeOf S (nodeOf S k .a)) m (shared m) refl refl refl s c nc stop)
+          ∙ ap (written m) (share-turn S k 0 (nodeOf S k .a) (placeOf S k) (placeOf S (nodeOf S k .a)) m (shared m) refl refl refl s c nc stop)

@@ -98,13 +98,14 @@ module _ (S : Source) (clear : tableFault (S .table) (S .addrs) (S .word) ≡ Cl
 
     -- the old memory is shared
     shared : Core
-    shared = eachWord S k (shareWord S A) s
+    shared = eachWord S k (shareWord S 0 A) s
 
     made : Made S k 0 s (wordsOf S k) shared
     unfolding shared
     made =
-        all-made S k 0 s (shareWord S A) (fits S clear k is s mapped run goes)
-        (share-word S clear k is s mapped run goes A old-a (node S clear k is s mapped run goes .operands .a) (same-words S k A (v ∙ sym va)) (λ b o. reads-a S k s b o old-a))
+        all-made S k 0 s (shareWord S 0 A) (fits S clear k is s mapped run goes)
+        (share-word S clear k is s mapped run goes 0 A old-a (node S clear k is s mapped run goes .operands .a) (same-words S k A (v ∙ sym va)) (λ b o. reads-a S k s b o old-a)
+        (λ b o two. omega arith))
 
     abbrev adr : List ℕ
     adr = wordAt S (s .map) B 0

@@ -3,40 +3,53 @@ use mathlib.Core.Path.{_≡_, ap, sym, _∙_, subst}
 use mathlib.Core.List.{List}
 use mathlib.Core.Logic.{inl, inr}
 use mathlib.Core.Bool.{true, false}
-use Prim.Native.Nat.{ℕ, _≤_, _<_}
+use Prim.Native.Nat.{ℕ, _+_, _-_, _*_, _≤_, _<_}
 use native.Mathlib.Omega.{arith}
-use lib.ListN.{length}
+use lib.ListN.{length, getD}
 use borrow.Author.Tests.{eq-eqb, ne-eqb}
 use Rattle.loops.proofs.Loop.{pick-true, pick-false}
 use Rattle.table.specs.declared.Node.{Node}
-use Rattle.table.specs.Kind.{ITE, READ, WRITE, divides}
+use Rattle.table.specs.Kind.{ITE, READ, WRITE, SEXT, usesA, divides}
 use Rattle.table.specs.Node.{widthOf, given}
-use Rattle.table.proofs.Whole.{Sound, Rule, is-const, is-input, is-state, is-not, is-bad, is-and, is-ext, is-eq, is-add, is-ite, is-sub, is-ult, is-mul, is-divu, is-rem, is-read, is-write, is-or, is-sll, is-srl}
+use Rattle.table.proofs.Whole.{Sound, Rule, Extended, is-const, is-input, is-state, is-not, is-bad, is-and, is-ext, is-eq, is-add, is-ite, is-sub, is-ult, is-mul, is-divu, is-rem, is-read, is-write, is-or, is-sll, is-srl, is-sext}
 use Rattle.values.proofs.Seen.{initial}
 use Rattle.netlist.specs.Net.{Net}
 use Rattle.visits.specs.Flow.{Core}
 use Rattle.nodes.specs.declared.own.Progress.{Progress}
-use Rattle.nodes.specs.Source.{Source, nodeOf, wordsOf, blockedOf}
-use Rattle.nodes.specs.Own.{shares, eachWord, inputWord, shareWord, readWord, wordOwn, iteOwn, divideOwn, writeOwn, madeBy, ownStep}
-use Rattle.nodes.specs.Asked.{Stands, Makes, Owns, Plain, coreAt, coreOf, Turned, Mapped}
-use Rattle.nodes.proofs.Places.{word-words, sound-of}
+use Rattle.nodes.specs.declared.place.Place.{Place}
+use Rattle.nodes.specs.Source.{Source, nodeOf, wordsOf, wideOf, offOf, blockedOf}
+use Rattle.nodes.specs.Own.{shares, eachWord, inputWord, shareWord, aboveOf, readWord, wordOwn, iteOwn, divideOwn, writeOwn, madeBy, ownStep}
+use Rattle.nodes.specs.Asked.{Stands, Makes, Owns, Plain, placeOf, coreAt, coreOf, Turned, Mapped}
+use Rattle.nodes.proofs.Places.{word-words, word-wide, sound-of, part-at}
 use Rattle.nodes.proofs.ShareLaws.{same-words}
 use Rattle.nodes.proofs.OwnKinds.{by-input, by-share, by-ite, by-divide, by-read, by-write, by-word}
+use Rattle.nodes.proofs.Facts.{word-in}
 use Rattle.nodes.proofs.WordFacts.{clash}
 
--- the operand whose bits a node shares
+-- the operand whose bits a node shares; a sext's has a top bit
 pub record Shared (S : Source) (k x : ℕ) : Type 0 where
   pub some : 1 ≤ x
   pub less : x < k
   pub words : wordsOf S k ≡ wordsOf S x
+  pub top : nodeOf S k .kind ≡ SEXT → 1 ≤ widthOf (S .table) x
 
 module _ (S : Source) (k : ℕ) (node : Sound (S .table) (S .word) k) (g : given (nodeOf S k) ≡ false) (h : shares (nodeOf S k) ≡ true) where
-  -- it is an initial node, a bad's or an ext's operand
+  -- it is an initial node, or the operand of a bad or of an extension
+  longer : usesA (nodeOf S k .kind) ≡ true → Extended (nodeOf S k .width) (widthOf (S .table) (nodeOf S k .a)) → Shared S k (nodeOf S k .a)
+  longer u v =
+      record {
+        some = node .operands .a-used u;
+        less = node .operands .a;
+        words = word-words S k (omega (arith, v .word, v .wide)) ∙ sym (word-words S (nodeOf S k .a) (v .word));
+        top = λ _. v .word;
+      }
+
   shared : Rule (S .word) (nodeOf S k) (widthOf (S .table) (nodeOf S k .a)) (widthOf (S .table) (nodeOf S k .b)) (widthOf (S .table) (nodeOf S k .c)) → Shared S k (nodeOf S k .a)
   shared (is-state e (inl z)) = absurd (omega (arith, initial (nodeOf S k) e g))
-  shared (is-state e (inr v)) = record { some = initial (nodeOf S k) e g; less = node .operands .a; words = same-words S k (nodeOf S k .a) (sym v) }
-  shared (is-bad e v va) = record { some = node .operands .a-used (rw e); less = node .operands .a; words = same-words S k (nodeOf S k .a) (v ∙ sym va) }
-  shared (is-ext e v va) = record { some = node .operands .a-used (rw e); less = node .operands .a; words = word-words S k (omega arith) ∙ sym (word-words S (nodeOf S k .a) va) }
+  shared (is-state e (inr v)) = record { some = initial (nodeOf S k) e g; less = node .operands .a; words = same-words S k (nodeOf S k .a) (sym v); top = λ z. absurd (omega arith) }
+  shared (is-bad e v va) = record { some = node .operands .a-used (rw e); less = node .operands .a; words = same-words S k (nodeOf S k .a) (v ∙ sym va); top = λ z. omega arith }
+  shared (is-ext e v) = longer (rw e) v
+  shared (is-sext e v) = longer (rw e) v
   shared (is-const e v i) = clash (sym h ∙ rw e)
   shared (is-input e) = clash (sym h ∙ rw e)
   shared (is-not e v va) = clash (sym h ∙ rw e)
@@ -85,9 +98,41 @@ module _ (S : Source) (o : List ℕ) (long k : ℕ) (h : Stands S o long k) (d :
     pub word-made : Plain d → Turned (eachWord S k (wordOwn S k)) s m s′ m′ → Turned (madeBy S k) s m s′ m′
     word-made p = as-made S k _ (λ t. by-word S k t (subst (λ (x : Node). Plain x) same p)) s m s′ m′
 
-  pub share-made : given d ≡ false → shares d ≡ true → (s : Net) (m m′ : List ℕ) → Mapped (eachWord S k (shareWord S (d .a))) m m′ → Turned (madeBy S k) s m s m′
-  share-made g e s m m′ t =
-      as-made S k _ (λ u. by-share S k u (rw same at g) (rw same at e)) s m s m′ (subst (λ (x : Node). Turned (eachWord S k (shareWord S (x .a))) s m s m′) same (t s))
+  -- what stands above the shared bits
+  pub above-none : (d .kind ≡ SEXT → ⊥) → (m : List ℕ) → 0 ≡ aboveOf S m k
+  unfolding aboveOf
+  above-none ne m = sym (pick-false _ _ _ (ne-eqb (nodeOf S k .kind) SEXT (λ z. ne (kind ∙ z))))
+
+  module _ (e : d .kind ≡ SEXT) (p : Place) (at : p ≡ placeOf S (d .a)) where
+    signed : nodeOf S k .kind ≡ SEXT
+    signed = sym kind ∙ e
+
+    below : Shared S k (nodeOf S k .a)
+    below = shared S k (sound-of S (h .clear) k (h .is)) (rw signed) (rw signed) (sound-of S (h .clear) k (h .is) .sort)
+
+    place : p ≡ placeOf S (nodeOf S k .a)
+    place = at ∙ ap (λ (x : Node). placeOf S (x .a)) same
+
+    some-wide : 1 ≤ wideOf S (nodeOf S k .a)
+    some-wide = omega (arith, word-wide S (nodeOf S k .a) (below .top signed), below .top signed)
+
+    pub above-in : (1 ≤ p .wide) × (p .off + p .wide ≤ long)
+    above-in = rw place (some-wide, word-in S o long k (nodeOf S k .a) h (below .some) (omega (arith, below .less)) (below .top signed))
+
+    above-top : (m : List ℕ) → getD m (offOf S (nodeOf S k .a) + wideOf S (nodeOf S k .a) - 1) 0 ≡ aboveOf S m k
+    unfolding aboveOf
+    above-top m =
+        let A : ℕ = nodeOf S k .a in
+        let z : offOf S A + 0 * wideOf S A + (wideOf S A - 1) ≡ offOf S A + wideOf S A - 1 = omega (arith, some-wide) in
+        sym (pick-true _ _ _ (eq-eqb (nodeOf S k .kind) SEXT signed) ∙ (part-at m (offOf S A + 0 * wideOf S A) (wideOf S A) (wideOf S A - 1) (omega (arith, some-wide)) ∙ ap (λ (i : ℕ). getD m i 0) z))
+
+    pub above-path : (m : List ℕ) → getD m (p .off + p .wide - 1) 0 ≡ aboveOf S m k
+    above-path m = rw place (above-top m)
+
+  pub share-made : given d ≡ false → shares d ≡ true → (s : Net) (m m′ : List ℕ) (a : ℕ) → a ≡ aboveOf S m k → Mapped (eachWord S k (shareWord S a (d .a))) m m′ → Turned (madeBy S k) s m s m′
+  share-made g e s m m′ a q t =
+      as-made S k (λ (u : Core). eachWord S k (shareWord S (aboveOf S (u .map) k) (nodeOf S k .a)) u) (λ u. by-share S k u (rw same at g) (rw same at e)) s m s m′
+      (λ c nc stop. rw (q, same) at (t s c nc stop))
 
 -- none of the kinds that are told before
 pub plainly : (d : Node) → given d ≡ false → shares d ≡ false → (d .kind ≡ ITE → ⊥) → divides (d .kind) ≡ false → (d .kind ≡ READ → ⊥) → (d .kind ≡ WRITE → ⊥) → Plain d

@@ -11,7 +11,7 @@ use Rattle.table.specs.Kind.{ITE, DIVU, REM, READ, WRITE, divides}
 use Rattle.table.specs.Node.{given}
 use Rattle.visits.specs.Flow.{Core}
 use Rattle.nodes.specs.Source.{Source, nodeOf}
-use Rattle.nodes.specs.Own.{shares, eachWord, inputWord, shareWord, readWord, wordOwn, iteOwn, divideOwn, writeOwn, madeBy}
+use Rattle.nodes.specs.Own.{shares, eachWord, inputWord, shareWord, aboveOf, readWord, wordOwn, iteOwn, divideOwn, writeOwn, madeBy}
 use Rattle.nodes.specs.Asked.{Plain}
 
 module _ (S : Source) (k : ℕ) (s : Core) where
@@ -22,7 +22,7 @@ module _ (S : Source) (k : ℕ) (s : Core) where
   unfolding madeBy
   by-input g = pick-true _ _ _ g
 
-  pub by-share : given d ≡ false → shares d ≡ true → madeBy S k s ≡ eachWord S k (shareWord S (d .a)) s
+  pub by-share : given d ≡ false → shares d ≡ true → madeBy S k s ≡ eachWord S k (shareWord S (aboveOf S (s .map) k) (d .a)) s
   unfolding madeBy
   by-share g h = pick-false _ _ _ g ∙ pick-true _ _ _ h
 

@@ -18,7 +18,7 @@ use Rattle.gates.specs.declared.made.At.{At}
 use Rattle.gates.specs.Made.{MadeBit, netOf, madeOf, added, gateInputBit}
 use Rattle.words.specs.declared.each.Bitwise.the-variants as op
 use Rattle.words.specs.declared.shift.Direction.the-variants.{Left, Right}
-use Rattle.words.specs.Num.{blank}
+use Rattle.words.specs.Num.{filled, blank}
 use Rattle.words.specs.Each.{Word, wordOf, eachBit, putBits}
 use Rattle.digits.specs.Digits.{putDigits}
 use Rattle.words.specs.Add.{Chain, chainOf, addWords}
@@ -65,10 +65,10 @@ unfolding placed inputs
 input-words-next node to w i s t e = ap (λ (x : Word). x .net .n) e ∙ input-count node (i * w) w (fresh (s .net))
 
 -- shared bits
-pub share-path : (from v to w i : ℕ) (word map map′ : List ℕ) → word ≡ putBits 0 (take (from + i * v + v - (from + i * v)) (drop (from + i * v) map)) v blank
-    → map′ ≡ putBits (to + i * w) word w map → map′ ≡ shareAt from v to w i map
+pub share-path : (a from v to w i : ℕ) (word map map′ : List ℕ) → word ≡ putBits 0 (take (from + i * v + v - (from + i * v)) (drop (from + i * v) map)) v (filled a)
+    → map′ ≡ putBits (to + i * w) word w map → map′ ≡ shareAt a from v to w i map
 unfolding shareAt
-share-path from v to w i word map map′ p q = let z : from + i * v + v - (from + i * v) ≡ v = omega arith in q ∙ ap (λ l. putBits (to + i * w) l w map) (rw z at p)
+share-path a from v to w i word map map′ p q = let z : from + i * v + v - (from + i * v) ≡ v = omega arith in q ∙ ap (λ l. putBits (to + i * w) l w map) (rw z at p)
 
 -- choices
 pub choose-word-path : (c a b to w i : ℕ) (g g′ word map map′ : List ℕ) (n n′ : At)

@@ -33,7 +33,7 @@ use Rattle.nodes.proofs.MeaningPlaces.{wide-range}
 use Rattle.nodes.proofs.Meaning.{Evaluated, right-says}
 use Rattle.nodes.proofs.RightWords.{Operable, OwnWord}
 use Rattle.nodes.proofs.RightOperands.{bit-one, num-one, sound, a-is, b-is, c-is, a-right, word-says, word-made}
-use Rattle.nodes.proofs.RightShare.{share-made}
+use Rattle.nodes.proofs.RightShare.{same-made}
 
 -- the chosen slot, by the condition's value
 ite-true : (x : List ℕ) (a b c j : ℕ) → eqb (getD x a 0) 1 ≡ true → iteValue x a b c j ≡ getD x (b + j) 0
@@ -86,15 +86,15 @@ module _ {S : Source} {x : List ℕ} (v : Evaluated S x) {k : ℕ} (is : Is (rec
 
   module _ (m : List ℕ) (i : ℕ) (t : Core) (lt : i < wordsOf S k) where
     side-made : (y : ℕ) → Is (recipe S) y → widthOf (S .table) y ≡ d .width → secondOf S m k ≡ y
-        → ((h : Assign) → Considered (meaning S x) (t .net) h → Operable S x k m h m → iteValue x oa ob oc i ≡ slotOf S x y i) → OwnWord S x k m i t (shareWord S (secondOf S m k) i t)
+        → ((h : Assign) → Considered (meaning S x) (t .net) h → Operable S x k m h m → iteValue x oa ob oc i ≡ slotOf S x y i) → OwnWord S x k m i t (shareWord S 0 (secondOf S m k) i t)
     side-made y iy same q says =
         rw q
-        (share-made v is m i t lt y iy (rw (same-words S y k same) lt) (omega (arith, same-wide S y k same))
+        (same-made v is m i t lt 0 refl y iy (rw (same-words S y k same) lt) (omega (arith, same-wide S y k same))
         (λ h ce before o.
         let r : Right (recipe S) (meaning S x) h (t .map) (secondOf S m k) = o .second (λ z. omega (arith, iy .low)) in
-        (rw q at r, v .made k i is lt (rw e) ∙ (at-ite (S .addrs) d x oa ob oc _ i e ∙ says h ce before))))
+        (rw q at r, v .made k i is lt (rw e) ∙ (at-ite (S .addrs) d (widthOf (S .table) (d .a)) x oa ob oc _ i e ∙ says h ce before))))
 
-    by-condition : (c : ℕ) → conditionOf S m k ≡ c → c < 2 → OwnWord S x k m i t (shareWord S (secondOf S m k) i t)
+    by-condition : (c : ℕ) → conditionOf S m k ≡ c → c < 2 → OwnWord S x k m i t (shareWord S 0 (secondOf S m k) i t)
     by-condition zero q l =
         side-made (d .c) (c-is v is (ap usesC e)) right (second-false m q)
         (λ h ce before. ite-false x oa ob oc i (condition-says m m h before ∙ (ap h q ∙ ce .obeys .low)))
@@ -103,7 +103,7 @@ module _ {S : Source} {x : List ℕ} (v : Evaluated S x) {k : ℕ} (is : Is (rec
         (λ h ce before. ite-true x oa ob oc i (condition-says m m h before ∙ (ap h q ∙ ce .obeys .high)))
     by-condition (suc (suc c)) q l = absurd (omega arith)
 
-    pub known-made : isKnown (conditionOf S m k) ≡ true → OwnWord S x k m i t (shareWord S (secondOf S m k) i t)
+    pub known-made : isKnown (conditionOf S m k) ≡ true → OwnWord S x k m i t (shareWord S 0 (secondOf S m k) i t)
     known-made z = by-condition (conditionOf S m k) refl (known-less (conditionOf S m k) z)
 
     abbrev c : ℕ
@@ -135,4 +135,4 @@ module _ {S : Source} {x : List ℕ} (v : Evaluated S x) {k : ℕ} (is : Is (rec
         num-choose h (h c) (eachBit (op.Choose c) B C (wideOf S k) (fresh (t .net)) .out) B C (wideOf S k) (L .value h (ce .obeys))
         ∙ (ap₂ (λ (a b : ℕ). pick (h c) a b) nb nc
         ∙ (sym (ite-pick x oa ob oc i (h c) (condition-says m (t .map) h o))
-        ∙ sym (at-ite (S .addrs) d x oa ob oc _ i e))))
+        ∙ sym (at-ite (S .addrs) d (widthOf (S .table) (d .a)) x oa ob oc _ i e))))

@@ -145,13 +145,13 @@ module _ {S : Source} {x : List ℕ} (v : Evaluated S x) {k : ℕ} (gates : Divi
   divu-value : d .kind ≡ DIVU → slotOf S x k 0 ≡ divWord (d .width) (dividend S x k) (divisor S x k)
   divu-value e =
       v .made k 0 is (omega (arith, words-one)) no-given
-      ∙ (at-divu (S .addrs) d x (slotFrom S (d .a)) (slotFrom S (d .b)) (slotFrom S (d .c)) _ 0 e
+      ∙ (at-divu (S .addrs) d (widthOf (S .table) (d .a)) x (slotFrom S (d .a)) (slotFrom S (d .b)) (slotFrom S (d .c)) _ 0 e
       ∙ sym (ap₂ (divWord (d .width)) (slot-word S x (d .a)) (slot-word S x (d .b))))
 
   rem-value : d .kind ≡ REM → slotOf S x k 0 ≡ remWord (dividend S x k) (divisor S x k)
   rem-value e =
       v .made k 0 is (omega (arith, words-one)) no-given
-      ∙ (at-rem (S .addrs) d x (slotFrom S (d .a)) (slotFrom S (d .b)) (slotFrom S (d .c)) _ 0 e
+      ∙ (at-rem (S .addrs) d (widthOf (S .table) (d .a)) x (slotFrom S (d .a)) (slotFrom S (d .b)) (slotFrom S (d .c)) _ 0 e
       ∙ sym (ap₂ remWord (slot-word S x (d .a)) (slot-word S x (d .b))))
 
   slot-is : slotOf S x k 0 ≡ pick quotient (divWord (d .width) (dividend S x k) (divisor S x k)) (remWord (dividend S x k) (divisor S x k))

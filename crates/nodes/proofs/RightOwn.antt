@@ -11,14 +11,14 @@ use borrow.Author.Tests.{eq-eqb}
 use Rattle.loops.proofs.Loop.{by-pick}
 use Rattle.table.specs.Kind.{STATE, ITE, divides}
 use Rattle.table.specs.Node.{widthOf, given}
-use Rattle.table.proofs.Whole.{Rule, is-const, is-input, is-state, is-not, is-bad, is-and, is-ext, is-eq, is-add, is-ite, is-sub, is-ult, is-mul, is-divu, is-rem, is-read, is-write, is-or, is-sll, is-srl}
+use Rattle.table.proofs.Whole.{Rule, is-const, is-input, is-state, is-not, is-bad, is-and, is-ext, is-eq, is-add, is-ite, is-sub, is-ult, is-mul, is-divu, is-rem, is-read, is-write, is-or, is-sll, is-srl, is-sext}
 use Rattle.values.proofs.Seen.{initial}
 use Rattle.netlist.specs.Bit.{isKnown}
 use Rattle.words.specs.Each.{Word}
 use Rattle.visits.specs.Flow.{Core}
 use Rattle.visits.specs.Claims.{Ready, StepRight, OwnRight}
 use Rattle.nodes.specs.Source.{Source, nodeOf, wordsOf, conditionOf, secondOf, blockedOf}
-use Rattle.nodes.specs.Own.{eachWord, inputWord, shareWord, chooseWord, readWord, wordOwn, iteOwn, madeBy, ownStep}
+use Rattle.nodes.specs.Own.{eachWord, inputWord, shareWord, aboveOf, chooseWord, readWord, wordOwn, iteOwn, madeBy, ownStep}
 use Rattle.nodes.specs.Recipe.{recipe}
 use Rattle.nodes.specs.Meaning.{meaning}
 use Rattle.nodes.proofs.MemoryLaws.{ReadsOwed, WritesOwed}
@@ -29,7 +29,7 @@ use Rattle.nodes.proofs.Meaning.{Evaluated}
 use Rattle.nodes.proofs.RightWords.{OwnWord, words-right}
 use Rattle.nodes.proofs.RightPlain.{const-made, not-made, and-made, eq-made, add-made, sub-made, ult-made, mul-made, or-made, sll-made, srl-made}
 use Rattle.nodes.proofs.RightInput.{input-made}
-use Rattle.nodes.proofs.RightShare.{state-made, bad-made, ext-made}
+use Rattle.nodes.proofs.RightShare.{state-made, bad-made, ext-made, sext-made}
 use Rattle.nodes.proofs.RightChoice.{known-made, choose-made}
 use Rattle.nodes.proofs.RightRead.{read-made}
 use Rattle.nodes.proofs.RightWrite.{write-right}
@@ -52,14 +52,14 @@ module _ {S : Source} {x : List ℕ} (v : Evaluated S x) (reads : ReadsOwed S) (
   state-right e z true g = given-right (ap divides e) g
   state-right e (inl z) false g = absurd (omega (arith, initial (nodeOf S k) e g))
   state-right e (inr z) false g =
-      each (shareWord S (nodeOf S k .a)) (by-share S k s g (rw e)) (ap divides e) (λ i t lt. state-made v (ready .is) (s .map) i t lt e g (initial (nodeOf S k) e g) z)
+      each (shareWord S (aboveOf S (s .map) k) (nodeOf S k .a)) (by-share S k s g (rw e)) (ap divides e) (λ i t lt. state-made v (ready .is) (s .map) i t lt e g (initial (nodeOf S k) e g) z)
 
   ite-right : nodeOf S k .kind ≡ ITE → widthOf (S .table) (nodeOf S k .a) ≡ 1 → widthOf (S .table) (nodeOf S k .b) ≡ nodeOf S k .width → widthOf (S .table) (nodeOf S k .c) ≡ nodeOf S k .width → Good (madeBy S k s)
   unfolding iteOwn
   ite-right e p q r =
       rw (by-ite S k s e)
       (by-pick Good (isKnown (conditionOf S (s .map) k)) _ _
-      (λ h. words-right S x k s (shareWord S (secondOf S (s .map) k)) (v .clear) ready (ap divides e) (λ i t lt. known-made v (ready .is) e p q r (s .map) i t lt h))
+      (λ h. words-right S x k s (shareWord S 0 (secondOf S (s .map) k)) (v .clear) ready (ap divides e) (λ i t lt. known-made v (ready .is) e p q r (s .map) i t lt h))
       (λ h. words-right S x k s (chooseWord S k) (v .clear) ready (ap divides e) (λ i t lt. choose-made v (ready .is) e p q r (s .map) i t lt h)))
 
   by-rule : Rule (S .word) (nodeOf S k) (widthOf (S .table) (nodeOf S k .a)) (widthOf (S .table) (nodeOf S k .b)) (widthOf (S .table) (nodeOf S k .c)) → Good (madeBy S k s)
@@ -67,9 +67,9 @@ module _ {S : Source} {x : List ℕ} (v : Evaluated S x) (reads : ReadsOwed S) (
   by-rule (is-input e) = given-right (ap divides e) (rw e)
   by-rule (is-state e z) = state-right e z (given (nodeOf S k)) refl
   by-rule (is-not e h z) = each (wordOwn S k) (by-word S k s (record { given = rw e; shares = rw e; chooses = rw e; divides = rw e; reads = rw e; writes = rw e })) (ap divides e) (λ i t lt. not-made v (ready .is) (s .map) i t lt e h z)
-  by-rule (is-bad e h z) = each (shareWord S (nodeOf S k .a)) (by-share S k s (rw e) (rw e)) (ap divides e) (λ i t lt. bad-made v (ready .is) (s .map) i t lt e h z)
+  by-rule (is-bad e h z) = each (shareWord S (aboveOf S (s .map) k) (nodeOf S k .a)) (by-share S k s (rw e) (rw e)) (ap divides e) (λ i t lt. bad-made v (ready .is) (s .map) i t lt e h z)
   by-rule (is-and e z) = each (wordOwn S k) (by-word S k s (record { given = rw e; shares = rw e; chooses = rw e; divides = rw e; reads = rw e; writes = rw e })) (ap divides e) (λ i t lt. and-made v (ready .is) (s .map) i t lt e z)
-  by-rule (is-ext e h z) = each (shareWord S (nodeOf S k .a)) (by-share S k s (rw e) (rw e)) (ap divides e) (λ i t lt. ext-made v (ready .is) (s .map) i t lt e h z)
+  by-rule (is-ext e z) = each (shareWord S (aboveOf S (s .map) k) (nodeOf S k .a)) (by-share S k s (rw e) (rw e)) (ap divides e) (λ i t lt. ext-made v (ready .is) (s .map) i t lt z e)
   by-rule (is-eq e z) = each (wordOwn S k) (by-word S k s (record { given = rw e; shares = rw e; chooses = rw e; divides = rw e; reads = rw e; writes = rw e })) (ap divides e) (λ i t lt. eq-made v (ready .is) (s .map) i t lt e z)
   by-rule (is-add e z) = each (wordOwn S k) (by-word S k s (record { given = rw e; shares = rw e; chooses = rw e; divides = rw e; reads = rw e; writes = rw e })) (ap divides e) (λ i t lt. add-made v (ready .is) (s .map) i t lt e z)
   by-rule (is-ite e p q r) = ite-right e p q r
@@ -79,6 +79,7 @@ module _ {S : Source} {x : List ℕ} (v : Evaluated S x) (reads : ReadsOwed S) (
   by-rule (is-or e z) = each (wordOwn S k) (by-word S k s (record { given = rw e; shares = rw e; chooses = rw e; divides = rw e; reads = rw e; writes = rw e })) (ap divides e) (λ i t lt. or-made v (ready .is) (s .map) i t lt e z)
   by-rule (is-sll e z) = each (wordOwn S k) (by-word S k s (record { given = rw e; shares = rw e; chooses = rw e; divides = rw e; reads = rw e; writes = rw e })) (ap divides e) (λ i t lt. sll-made v (ready .is) (s .map) i t lt e z)
   by-rule (is-srl e z) = each (wordOwn S k) (by-word S k s (record { given = rw e; shares = rw e; chooses = rw e; divides = rw e; reads = rw e; writes = rw e })) (ap divides e) (λ i t lt. srl-made v (ready .is) (s .map) i t lt e z)
+  by-rule (is-sext e z) = each (shareWord S (aboveOf S (s .map) k) (nodeOf S k .a)) (by-share S k s (rw e) (rw e)) (ap divides e) (λ i t lt. sext-made v (ready .is) (s .map) i t lt z e)
   by-rule (is-divu e z) = rw (by-divide S k s (ap divides e)) (division-right v gates numbers (ap divides e) z s ready goes)
   by-rule (is-rem e z) = rw (by-divide S k s (ap divides e)) (division-right v gates numbers (ap divides e) z s ready goes)
   by-rule (is-read e h p q) = each (readWord S k) (by-read S k s e) (ap divides e) (λ i t lt. read-made v (ready .is) reads e h p q (s .map) i t lt)

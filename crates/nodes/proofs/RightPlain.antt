@@ -167,7 +167,7 @@ module _ {S : Source} {x : List ℕ} (v : Evaluated S x) {k : ℕ} (is : Is (rec
       (λ a ce o.
       let p = digits.put-law (d .imm) (d .width) blank (omega (arith, blank-long, sound v is .narrow)) in
       rw (wide-k h) (num-digits (t .net) a (putDigits (d .imm) (d .width) blank) (d .width) (d .imm) (ce .obeys) g (p .there) (digit-lt (d .imm)))
-      ∙ sym (at-const (S .addrs) d x oa ob (slotFrom S (d .c)) _ i e)))
+      ∙ sym (at-const (S .addrs) d (widthOf (S .table) (d .a)) x oa ob (slotFrom S (d .c)) _ i e)))
 
   abbrev oc : ℕ
   oc = slotFrom S (d .c)
@@ -189,7 +189,7 @@ module _ {S : Source} {x : List ℕ} (v : Evaluated S x) {k : ℕ} (is : Is (rec
       rw e
       (one (eachBit op.Not A A w (fresh (t .net))) (eachCost op.Not A A w) (notWord (d .width)) (ap usesA e) (rw e) (omega arith) (L .ext)
       (λ a o. rw (wide-own same, width-own h same) (not-says a (eachBit op.Not A A w (fresh (t .net)) .out) A w (L .value a o)))
-      (at-not (S .addrs) d x oa ob oc _ i e))
+      (at-not (S .addrs) d (widthOf (S .table) (d .a)) x oa ob oc _ i e))
 
   -- bit by bit, of two words of one width
   pair-made : (o : Bitwise) (f : ℕ → ℕ → ℕ) → usesA (d .kind) ≡ true → usesB (d .kind) ≡ true → (d .kind ≡ ITE → ⊥) → given d ≡ false
@@ -207,14 +207,14 @@ module _ {S : Source} {x : List ℕ} (v : Evaluated S x) {k : ℕ} (is : Is (rec
   and-made e z =
       rw e
       (pair-made op.And bitAnd (ap usesA e) (ap usesB e) (λ q. omega arith) (rw e) z (λ a out. digits-say and-digits a out A B w)
-      (at-and (S .addrs) d x oa ob oc _ i e))
+      (at-and (S .addrs) d (widthOf (S .table) (d .a)) x oa ob oc _ i e))
 
   pub or-made : d .kind ≡ OR → Even (d .width) (widthOf (S .table) (d .a)) (widthOf (S .table) (d .b)) → Made (wordOwn S k i t)
   unfolding wordOwn plainWord pick bitValue
   or-made e z =
       rw e
       (pair-made op.Or bitOr (ap usesA e) (ap usesB e) (λ q. omega arith) (rw e) z (λ a out. digits-say or-digits a out A B w)
-      (at-or (S .addrs) d x oa ob oc _ i e))
+      (at-or (S .addrs) d (widthOf (S .table) (d .a)) x oa ob oc _ i e))
 
   -- a shift, either way
   shift-made : (to : Direction) (f : ℕ → ℕ → ℕ → ℕ) → usesA (d .kind) ≡ true → usesB (d .kind) ≡ true → (d .kind ≡ ITE → ⊥) → given d ≡ false
@@ -229,12 +229,12 @@ module _ {S : Source} {x : List ℕ} (v : Evaluated S x) {k : ℕ} (is : Is (rec
   pub sll-made : d .kind ≡ SLL → Even (d .width) (widthOf (S .table) (d .a)) (widthOf (S .table) (d .b)) → Made (wordOwn S k i t)
   unfolding wordOwn plainWord pick shifted sllWord
   sll-made e z =
-      rw e (shift-made Left sllWord (ap usesA e) (ap usesB e) (λ q. omega arith) (rw e) z (λ v p q. refl) (at-sll (S .addrs) d x oa ob oc _ i e))
+      rw e (shift-made Left sllWord (ap usesA e) (ap usesB e) (λ q. omega arith) (rw e) z (λ v p q. refl) (at-sll (S .addrs) d (widthOf (S .table) (d .a)) x oa ob oc _ i e))
 
   pub srl-made : d .kind ≡ SRL → Even (d .width) (widthOf (S .table) (d .a)) (widthOf (S .table) (d .b)) → Made (wordOwn S k i t)
   unfolding wordOwn plainWord pick shifted srlWord
   srl-made e z =
-      rw e (shift-made Right srlWord (ap usesA e) (ap usesB e) (λ q. omega arith) (rw e) z (λ v p q. refl) (at-srl (S .addrs) d x oa ob oc _ i e))
+      rw e (shift-made Right srlWord (ap usesA e) (ap usesB e) (λ q. omega arith) (rw e) z (λ v p q. refl) (at-srl (S .addrs) d (widthOf (S .table) (d .a)) x oa ob oc _ i e))
 
   pub add-made : d .kind ≡ ADD → Even (d .width) (widthOf (S .table) (d .a)) (widthOf (S .table) (d .b)) → Made (wordOwn S k i t)
   unfolding wordOwn plainWord pick addWord
@@ -243,7 +243,7 @@ module _ {S : Source} {x : List ℕ} (v : Evaluated S x) {k : ℕ} (is : Is (rec
       rw e
       (two (ofChain (addWords w A B (record { net = t .net; carry = 0; out = blank }))) (addCost A B w) (addWord (d .width)) (ap usesA e) (ap usesB e) (λ q. omega arith) (rw e) (omega (arith, z .word, z .left)) (z .right ∙ sym (z .left)) (L .ext)
       (λ a o. rw (wide-own (z .left), width-own (z .word) (z .left)) (add-value A B (record { net = t .net; carry = 0; out = blank }) w _ L refl a o))
-      (at-add (S .addrs) d x oa ob oc _ i e))
+      (at-add (S .addrs) d (widthOf (S .table) (d .a)) x oa ob oc _ i e))
 
   pub sub-made : d .kind ≡ SUB → Even (d .width) (widthOf (S .table) (d .a)) (widthOf (S .table) (d .b)) → Made (wordOwn S k i t)
   unfolding wordOwn plainWord pick
@@ -252,7 +252,7 @@ module _ {S : Source} {x : List ℕ} (v : Evaluated S x) {k : ℕ} (is : Is (rec
       rw e
       (two (ofChain (subWords w A B (t .net) blank)) (subCost A B w) (subWord (d .width)) (ap usesA e) (ap usesB e) (λ q. omega arith) (rw e) (omega (arith, z .word, z .left)) (z .right ∙ sym (z .left)) (L .ext)
       (λ a o. rw (wide-own (z .left), width-own (z .word) (z .left)) (sub-value w A B (t .net) blank _ L a o ∙ sub-same w (num a A w) (num a B w) (num-lt a B w)))
-      (at-sub (S .addrs) d x oa ob oc _ i e))
+      (at-sub (S .addrs) d (widthOf (S .table) (d .a)) x oa ob oc _ i e))
 
   pub mul-made : d .kind ≡ MUL → Even (d .width) (widthOf (S .table) (d .a)) (widthOf (S .table) (d .b)) → Made (wordOwn S k i t)
   unfolding wordOwn plainWord pick mulWord
@@ -261,7 +261,7 @@ module _ {S : Source} {x : List ℕ} (v : Evaluated S x) {k : ℕ} (is : Is (rec
       rw e
       (two (mulWords w A B (fresh (t .net))) (mulCost w) (mulWord (d .width)) (ap usesA e) (ap usesB e) (λ q. omega arith) (rw e) (omega (arith, z .word, z .left)) (z .right ∙ sym (z .left)) (L .ext)
       (λ a o. rw (wide-own (z .left), width-own (z .word) (z .left)) (L .value a o))
-      (at-mul (S .addrs) d x oa ob oc _ i e))
+      (at-mul (S .addrs) d (widthOf (S .table) (d .a)) x oa ob oc _ i e))
 
   -- one bit
   wide-one : d .width ≡ 1 → wideOf S k ≡ 1
@@ -274,7 +274,7 @@ module _ {S : Source} {x : List ℕ} (v : Evaluated S x) {k : ℕ} (is : Is (rec
       rw e
       (two (ofBit (eqWords w A B (t .net))) (eqCost A B w) (λ p q. bit (eqb p q)) (ap usesA e) (ap usesB e) (λ q. omega arith) (rw e) (z .word) (z .same) (L .ext)
       (λ a o. rw (wide-one (z .one)) (num-bit a (eqWords w A B (t .net) .bit) ∙ ap bit (L .value a o)))
-      (at-eq (S .addrs) d x oa ob oc _ i e))
+      (at-eq (S .addrs) d (widthOf (S .table) (d .a)) x oa ob oc _ i e))
 
   pub ult-made : d .kind ≡ ULT → Compared (d .width) (widthOf (S .table) (d .a)) (widthOf (S .table) (d .b)) → Made (wordOwn S k i t)
   unfolding wordOwn plainWord pick
@@ -283,4 +283,4 @@ module _ {S : Source} {x : List ℕ} (v : Evaluated S x) {k : ℕ} (is : Is (rec
       rw e
       (two (ofBit (ultWords w A B (t .net))) (4 * w + 1) (λ p q. bit (ltb p q)) (ap usesA e) (ap usesB e) (λ q. omega arith) (rw e) (z .word) (z .same) (L .ext)
       (λ a o. rw (wide-one (z .one)) (num-bit a (ultWords w A B (t .net) .bit) ∙ ap bit (L .value a o)))
-      (at-ult (S .addrs) d x oa ob oc _ i e))
+      (at-ult (S .addrs) d (widthOf (S .table) (d .a)) x oa ob oc _ i e))

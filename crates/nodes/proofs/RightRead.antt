@@ -88,7 +88,7 @@ module _ {S : Source} {x : List ℕ} (v : Evaluated S x) {k : ℕ} (is : Is (rec
   unfolding readWord readValue
   read-made reads e hw ha hb m i t lt =
       word-made v is (listed S * (4 * S .word - 1)) lt (rw e) (L .ext)
-      (λ h ce o. ap (λ z. num h out z) wk ∙ (said h ce o (decLt place (listed S)) ∙ sym (at-read (S .addrs) d x oa ob oc _ i e ∙ ap (readValue (S .addrs) x oa) (place-access (S .addrs) d x ob (rw e)))))
+      (λ h ce o. ap (λ z. num h out z) wk ∙ (said h ce o (decLt place (listed S)) ∙ sym (at-read (S .addrs) d (widthOf (S .table) (d .a)) x oa ob oc _ i e ∙ ap (readValue (S .addrs) x oa) (place-access (S .addrs) d x ob (rw e)))))
     where
       mem : List ℕ
       mem = allAt S (t .map) (d .a)

@@ -23,7 +23,7 @@ use Rattle.words.specs.Num.{num}
 use Rattle.words.specs.Each.{Word}
 use Rattle.words.proofs.NumLaws.{right-num, num-right}
 use Rattle.words.proofs.EachLaws.{put-law}
-use Rattle.words.proofs.SubLaws.{wide-at}
+use Rattle.words.proofs.ExtendLaws.{extend-law}
 use Rattle.memory.specs.Address.{wordNum}
 use Rattle.memory.specs.Write.{writeWords, WriteLaw}
 use Rattle.visits.specs.Flow.{Core}
@@ -70,7 +70,7 @@ module _ {S : Source} {x : List ℕ} (v : Evaluated S x) {k : ℕ} (writes : Wri
   ua = sound v is .operands .a-used (ap usesA e)
 
   -- the old memory, shared into the node's place
-  old-made : (i : ℕ) (t : Core) → i < wordsOf S k → WordSays S x k (valueOf S x (nodeOf S k .a)) (s .map) i t (shareWord S (nodeOf S k .a) i t)
+  old-made : (i : ℕ) (t : Core) → i < wordsOf S k → WordSays S x k (valueOf S x (nodeOf S k .a)) (s .map) i t (shareWord S 0 (nodeOf S k .a) i t)
   unfolding shareWord
   old-made i t lt =
       let same : widthOf (S .table) (nodeOf S k .a) ≡ nodeOf S k .width = ha ∙ sym hw in
@@ -81,15 +81,15 @@ module _ {S : Source} {x : List ℕ} (v : Evaluated S x) {k : ℕ} (writes : Wri
         grows = grows-refl (t .net) 0;
         only = λ room g lo hi fr. absurd (omega arith);
         right = λ h ce before o. rw w
-            (λ j l. ap h (wide-at (wideOf S (nodeOf S k .a)) (wordAt S (t .map) (nodeOf S k .a) i) (wide-range S (v .clear) (nodeOf S k .a) .1) j l ∙ word-bit S (t .map) (nodeOf S k .a) i j l)
+            (λ j l. ap h (extend-law 0 (wideOf S (nodeOf S k .a)) (wordAt S (t .map) (nodeOf S k .a) i) (omega (arith, wide-range S (v .clear) (nodeOf S k .a) .1)) .there j l ∙ word-bit S (t .map) (nodeOf S k .a) i j l)
             ∙ a-right v is (s .map) (t .map) h o ua (i * wideOf S (nodeOf S k .a) + j) (rw (bits-words S (nodeOf S k .a) ua) (place-in (wideOf S (nodeOf S k .a)) (wordsOf S (nodeOf S k .a)) i j (rw u at lt) l)));
       }
 
   abbrev t : Core
-  t = eachWord S k (shareWord S (nodeOf S k .a)) s
+  t = eachWord S k (shareWord S 0 (nodeOf S k .a)) s
 
   old : WordsSay S x k (valueOf S x (nodeOf S k .a)) s (wordsOf S k) t
-  old = words-made S x k (valueOf S x (nodeOf S k .a)) s (shareWord S (nodeOf S k .a)) (v .clear) ready old-made
+  old = words-made S x k (valueOf S x (nodeOf S k .a)) s (shareWord S 0 (nodeOf S k .a)) (v .clear) ready old-made
 
   wk : wideOf S k ≡ W
   wk = memory-wide S k hw
@@ -159,7 +159,7 @@ module _ {S : Source} {x : List ℕ} (v : Evaluated S x) {k : ℕ} (writes : Wri
   unfolding writeValue
   written i lt =
       v .made k i is lt (rw e)
-      ∙ (at-write (S .addrs) (nodeOf S k) x oa ob oc _ i e
+      ∙ (at-write (S .addrs) (nodeOf S k) (widthOf (S .table) (nodeOf S k .a)) x oa ob oc _ i e
       ∙ (ap (λ p. writeValue x oa p (getD x oc 0) i) (place-access (S .addrs) (nodeOf S k) x ob (rw e))
       ∙ ap (λ b. pick b (getD x oc 0) (getD x (oa + i) 0)) (place-is S (v .clear) (getD x ob 0) i (rw nk at lt))))
 

@@ -14,7 +14,7 @@ use Rattle.table.specs.declared.Fault.the-variants.{Clear}
 use Rattle.table.specs.Kind.{ITE, DIVU, REM, divides, usesB}
 use Rattle.table.specs.Node.{widthOf}
 use Rattle.table.specs.Sheet.{tableFault}
-use Rattle.table.proofs.Whole.{Sound, Rule, Even, is-const, is-input, is-state, is-not, is-bad, is-and, is-ext, is-eq, is-add, is-ite, is-sub, is-ult, is-mul, is-divu, is-rem, is-read, is-write, is-or, is-sll, is-srl}
+use Rattle.table.proofs.Whole.{Sound, Rule, Even, is-const, is-input, is-state, is-not, is-bad, is-and, is-ext, is-eq, is-add, is-ite, is-sub, is-ult, is-mul, is-divu, is-rem, is-read, is-write, is-or, is-sll, is-srl, is-sext}
 use Rattle.netlist.specs.Bit.{isKnown}
 use Rattle.digits.specs.Digits.{allKnown, knownBits, knownNumber}
 use Rattle.digits.proofs.Numbers.{number-same}
@@ -45,7 +45,7 @@ divided (is-state e a) h = absurd (false≢true (rw e at h))
 divided (is-not e a b) h = absurd (false≢true (rw e at h))
 divided (is-bad e a b) h = absurd (false≢true (rw e at h))
 divided (is-and e s) h = s
-divided (is-ext e a b) h = absurd (false≢true (rw e at h))
+divided (is-ext e s) h = absurd (false≢true (rw e at h))
 divided (is-eq e s) h = absurd (false≢true (rw e at h))
 divided (is-add e s) h = s
 divided (is-ite e a b c) h = absurd (false≢true (rw e at h))
@@ -55,6 +55,7 @@ divided (is-mul e s) h = s
 divided (is-or e s) h = s
 divided (is-sll e s) h = s
 divided (is-srl e s) h = s
+divided (is-sext e s) h = absurd (false≢true (rw e at h))
 divided (is-divu e s) h = s
 divided (is-rem e s) h = s
 divided (is-read e a b c) h = absurd (false≢true (rw e at h))
@@ -72,7 +73,7 @@ chosen (is-state e a) h = absurd (omega arith)
 chosen (is-not e a b) h = absurd (omega arith)
 chosen (is-bad e a b) h = absurd (omega arith)
 chosen (is-and e s) h = absurd (omega arith)
-chosen (is-ext e a b) h = absurd (omega arith)
+chosen (is-ext e s) h = absurd (omega arith)
 chosen (is-eq e s) h = absurd (omega arith)
 chosen (is-add e s) h = absurd (omega arith)
 chosen (is-sub e s) h = absurd (omega arith)
@@ -81,6 +82,7 @@ chosen (is-mul e s) h = absurd (omega arith)
 chosen (is-or e s) h = absurd (omega arith)
 chosen (is-sll e s) h = absurd (omega arith)
 chosen (is-srl e s) h = absurd (omega arith)
+chosen (is-sext e s) h = absurd (omega arith)
 chosen (is-divu e s) h = absurd (omega arith)
 chosen (is-rem e s) h = absurd (omega arith)
 chosen (is-read e a b c) h = absurd (omega arith)

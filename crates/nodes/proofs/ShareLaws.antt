@@ -75,17 +75,18 @@ module _ (S : Source) (clear : tableFault (S .table) (S .addrs) (S .word) ≡ Cl
       (omega (arith, bits-words S k (is .low), bits-size S k (is .low), gates-of S k (is .low), top-given (listed S) (S .word) (nodeOf S k) (widthOf (S .table) (nodeOf S k .a)) g))
       (λ i x _ _. input-word g i x)
 
-  -- the bits of another node are shared
-  module _ (y : ℕ) (some : 1 ≤ y) (less : y < k) (words : wordsOf S k ≡ wordsOf S y) (reads : (b : ℕ) → Reads S k s b → Under (recipe S) b (s .map) y) where
-    pub share-word : (i : ℕ) (x : Core) → i < wordsOf S k → Till (offOf S k) (s .map) (x .map) → WordOwes S k s x 0 (shareWord S y i x)
+  -- the bits of another node are shared, and above them stands the bit a
+  module _ (a y : ℕ) (some : 1 ≤ y) (less : y < k) (words : wordsOf S k ≡ wordsOf S y) (reads : (b : ℕ) → Reads S k s b → Under (recipe S) b (s .map) y)
+      (over : (b : ℕ) → Reads S k s b → 2 ≤ b → a < b) where
+    pub share-word : (i : ℕ) (x : Core) → i < wordsOf S k → Till (offOf S k) (s .map) (x .map) → WordOwes S k s x 0 (shareWord S a y i x)
     unfolding shareWord
     share-word i x lt till =
-        made-owes {s = s} {In = λ b. Below b (wordAt S (x .map) y i) (wideOf S y)}
-        (share-made (x .net) (wordAt S (x .map) y i) (wideOf S y) (wideOf S k) (omega (arith, wide-small S clear y)))
-        (λ b o. word-below S y k b (s .map) (x .map) some less till (reads b o) i (omega arith))
+        made-owes {s = s} {In = λ b. (2 ≤ b → a < b) × Below b (wordAt S (x .map) y i) (wideOf S y)}
+        (share-made (x .net) a (wordAt S (x .map) y i) (wideOf S y) (wideOf S k) (omega (arith, wide-small S clear y)) (omega (arith, wide-small S clear k)))
+        (λ b o. (over b o, word-below S y k b (s .map) (x .map) some less till (reads b o) i (omega arith)))
 
-    pub share-step : Step (recipe S) k s (eachWord S k (shareWord S y) s)
-    share-step = by-words S clear k is s mapped run goes 0 (shareWord S y) (omega arith) share-word
+    pub share-step : Step (recipe S) k s (eachWord S k (shareWord S a y) s)
+    share-step = by-words S clear k is s mapped run goes 0 (shareWord S a y) (omega arith) share-word
 
   -- a choice: its sides have the node's width
   module _ (ite : nodeOf S k .kind ≡ ITE) (va : widthOf (S .table) (nodeOf S k .a) ≡ 1) (vb : widthOf (S .table) (nodeOf S k .b) ≡ widthOf (S .table) k)
@@ -106,9 +107,10 @@ module _ (S : Source) (clear : tableFault (S .table) (S .addrs) (S .word) ≡ Cl
     unfolding secondOf
     chosen = by-pick (λ y. (1 ≤ y) × (y < k) × (widthOf (S .table) k ≡ widthOf (S .table) y)) _ _ _ (λ _. (some-c, less-c, sym vc)) (λ _. (some-b, less-b, sym vb))
 
-    known-step : Step (recipe S) k s (eachWord S k (shareWord S (secondOf S (s .map) k)) s)
+    known-step : Step (recipe S) k s (eachWord S k (shareWord S 0 (secondOf S (s .map) k)) s)
     known-step =
-        share-step (secondOf S (s .map) k) (chosen .0) (chosen .1) (same-words S k (secondOf S (s .map) k) (chosen .2)) (λ b o. o .second (λ q. omega (arith, chosen .0)))
+        share-step 0 (secondOf S (s .map) k) (chosen .0) (chosen .1) (same-words S k (secondOf S (s .map) k) (chosen .2)) (λ b o. o .second (λ q. omega (arith, chosen .0)))
+        (λ b o two. omega arith)
 
     module _ (unknown : isKnown (conditionOf S (s .map) k) ≡ false) where
       choose-word : (i : ℕ) (x : Core) → i < wordsOf S k → Till (offOf S k) (s .map) (x .map) → WordOwes S k s x (3 * wideOf S k) (chooseWord S k i x)

@@ -1,16 +1,16 @@
 -- The step of a node, kind by kind: from the laws of its words, with its operands' bits taken out of the map.
 use mathlib.Core.Path.{_≡_, refl, ap, sym, _∙_}
 use mathlib.Core.List.{List}
-use mathlib.Core.Bool.{true, false}
+use mathlib.Core.Bool.{true, false, not, _&&_}
 use Prim.Native.Nat.{ℕ, _+_, _-_, _*_, _≤_, _<_}
 use native.Mathlib.Omega.{arith}
 use lib.Dec.{eqb, leb}
 use lib.ListN.{length, getD}
 use borrow.Author.Tests.{eqb-true, le-leb, leb-true}
 use Rattle.loops.specs.Loop.{pick}
-use Rattle.loops.proofs.Loop.{by-pick, either}
+use Rattle.loops.proofs.Loop.{by-pick, both, either}
 use Rattle.table.specs.declared.Fault.the-variants.{Clear}
-use Rattle.table.specs.Kind.{CONST, NOT, AND, EQ, ADD, ITE, SUB, ULT, MUL, OR, SLL, SRL, usesA, usesB, usesC}
+use Rattle.table.specs.Kind.{CONST, NOT, AND, EQ, ADD, ITE, SUB, ULT, MUL, OR, SLL, SRL, SEXT, usesA, usesB, usesC}
 use Rattle.table.specs.Node.{widthOf}
 use Rattle.table.specs.Ceiling.{shiftGates}
 use Rattle.table.specs.Sheet.{tableFault}
@@ -65,9 +65,9 @@ module _ (S : Source) (k : ℕ) (s : Core) (b : ℕ) (o : Reads S k s b) where
 
 pub two-one : (k : ℕ) → usesB k ≡ true → usesA k ≡ true
 two-one k h =
-    either (eqb k AND) (leb EQ k) (usesA k ≡ true)
+    either (eqb k AND) (leb EQ k && not (eqb k SEXT)) (usesA k ≡ true)
     (λ e. le-leb NOT k (omega (arith, eqb-true k AND e)))
-    (λ e. le-leb NOT k (omega (arith, leb-true EQ k e)))
+    (λ e. le-leb NOT k (omega (arith, leb-true EQ k (both (leb EQ k) (not (eqb k SEXT)) e .0))))
     h
 
 module _ (S : Source) (clear : tableFault (S .table) (S .addrs) (S .word) ≡ Clear) (k : ℕ) (is : Is (recipe S) k) (s : Core)

@@ -11,9 +11,9 @@ use Rattle.loops.specs.Loop.{iter}
 use Rattle.loops.proofs.Loop.{pick-true, pick-false}
 use Rattle.table.specs.declared.Node.{Node}
 use Rattle.table.specs.Kind.{CONST, NOT, usesA, usesB, compares}
-use Rattle.table.specs.Node.{nodes, widthOf}
+use Rattle.table.specs.Node.{widthOf}
 use Rattle.table.specs.Ceiling.{ceiling}
-use Rattle.table.proofs.Whole.{Sound, Rule, is-const, is-input, is-state, is-not, is-bad, is-and, is-ext, is-eq, is-add, is-ite, is-sub, is-ult, is-mul, is-divu, is-rem, is-read, is-write, is-or, is-sll, is-srl}
+use Rattle.table.proofs.Whole.{Sound, Rule, is-const, is-input, is-state, is-not, is-bad, is-and, is-ext, is-eq, is-add, is-ite, is-sub, is-ult, is-mul, is-divu, is-rem, is-read, is-write, is-or, is-sll, is-srl, is-sext}
 use Rattle.table.proofs.ceiling.ByKind.{top-not, top-and, top-eq, top-add, top-sub, top-ult, top-mul, top-or, top-sll, top-srl}
 use Rattle.netlist.specs.Net.{Net}
 use Rattle.gates.specs.declared.made.At.{At}
@@ -66,7 +66,7 @@ sort d n p (is-state e a) = clash (rw e at (p .shares))
 sort d n p (is-not e a b) = ofOne e (record { own = a; word = omega arith; uses = rw e; cost = top-not _ _ d _ e ∙ sym (top-not 0 0 d _ e); even = λ _. sym b })
 sort d n p (is-bad e a b) = clash (rw e at (p .shares))
 sort d n p (is-and e s) = ofTwo (λ z. omega arith) (rw e) (s .right ∙ sym (s .left)) (record { own = s .word; word = omega (arith, s .word, s .left); uses = rw e; cost = top-and _ _ d _ e ∙ sym (top-and 0 0 d _ e); even = λ _. sym (s .left) })
-sort d n p (is-ext e a b) = clash (rw e at (p .shares))
+sort d n p (is-ext e s) = clash (rw e at (p .shares))
 sort d n p (is-eq e s) = ofTwo (λ z. omega arith) (rw e) (s .same) (record { own = omega (arith, s .one); word = s .word; uses = rw e; cost = top-eq _ _ d _ e ∙ sym (top-eq 0 0 d _ e); even = λ z. clash (rw e at z) })
 sort d n p (is-add e s) = ofTwo (λ z. omega arith) (rw e) (s .right ∙ sym (s .left)) (record { own = s .word; word = omega (arith, s .word, s .left); uses = rw e; cost = top-add _ _ d _ e ∙ sym (top-add 0 0 d _ e); even = λ _. sym (s .left) })
 sort d n p (is-ite e a b c) = clash (rw e at (p .chooses))
@@ -76,6 +76,7 @@ sort d n p (is-mul e s) = ofTwo (λ z. omega arith) (rw e) (s .right ∙ sym (s 
 sort d n p (is-or e s) = ofTwo (λ z. omega arith) (rw e) (s .right ∙ sym (s .left)) (record { own = s .word; word = omega (arith, s .word, s .left); uses = rw e; cost = top-or _ _ d _ e ∙ sym (top-or 0 0 d _ e); even = λ _. sym (s .left) })
 sort d n p (is-sll e s) = ofTwo (λ z. omega arith) (rw e) (s .right ∙ sym (s .left)) (record { own = s .word; word = omega (arith, s .word, s .left); uses = rw e; cost = top-sll _ _ d _ e ∙ sym (top-sll 0 0 d _ e); even = λ _. sym (s .left) })
 sort d n p (is-srl e s) = ofTwo (λ z. omega arith) (rw e) (s .right ∙ sym (s .left)) (record { own = s .word; word = omega (arith, s .word, s .left); uses = rw e; cost = top-srl _ _ d _ e ∙ sym (top-srl 0 0 d _ e); even = λ _. sym (s .left) })
+sort d n p (is-sext e s) = clash (rw e at (p .shares))
 sort d n p (is-divu e s) = clash (rw e at (p .divides))
 sort d n p (is-rem e s) = clash (rw e at (p .divides))
 sort d n p (is-read e a b c) = clash (rw e at (p .reads))
@@ -224,9 +225,6 @@ module _ (S : Source) (o g : List ℕ) (a : At) (long k : ℕ) (h : Makes S o g 
         ap {B = Core} (λ (x : Word). coreAt (x .net) c nc (x .out) stop) u
         ∙ one-turn S k (wordOwn S k) (word-words S k (t .of .own)) s m (y .net) (y .out) (putBits (offOf S k) (y .out) (nodeOf S k .width) m) (all-path s m)
         (ap (λ (w : ℕ). putBits (offOf S k) (y .out) w m) (sym (word-wide S k (t .of .own)))) c nc stop
-
-  pub a-in : (d : Node) → d ≡ nodeOf S k → d .a ≤ nodes (S .table)
-  a-in d same = rw same (omega (arith, node .operands .a, h .stands .is .high))
 
   module _ (d : Node) (same : d ≡ nodeOf S k) (pl : Plain d) (ne : d .kind ≡ CONST → ⊥) (p : Place) (q : p ≡ placeOf S k) (left : Place) (l : left ≡ placeOf S (d .a)) (r : ℕ) (e : r ≡ rightOf d) where
     pair : Two (nodeOf S k)

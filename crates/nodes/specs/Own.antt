@@ -1,12 +1,12 @@
 -- A node's own gates and bits, kind by kind: document 01's recipe over the bit map.
 use mathlib.Core.List.{List}
 use mathlib.Core.Bool.{Bool, false, _||_}
-use Prim.Native.Nat.{ℕ, _+_, _*_}
+use Prim.Native.Nat.{ℕ, _+_, _-_, _*_}
 use lib.Dec.{eqb}
-use lib.ListN.{set}
+use lib.ListN.{getD, set}
 use Rattle.loops.specs.Loop.{pick, iter}
 use Rattle.table.specs.declared.Node.{Node}
-use Rattle.table.specs.Kind.{CONST, STATE, NOT, BAD, AND, EXT, EQ, ADD, ITE, SUB, ULT, MUL, DIVU, READ, WRITE, OR, SLL, SRL, divides}
+use Rattle.table.specs.Kind.{CONST, STATE, NOT, BAD, AND, EQ, ADD, ITE, SUB, ULT, MUL, DIVU, READ, WRITE, OR, SLL, SRL, SEXT, extends, divides}
 use Rattle.table.specs.Node.{given}
 use Rattle.netlist.specs.Net.{Net}
 use Rattle.netlist.specs.Bit.{isKnown}
@@ -16,7 +16,8 @@ use Rattle.words.specs.declared.each.Bitwise.the-variants as op
 use Rattle.words.specs.Num.{blank}
 use Rattle.words.specs.Each.{Word, eachBit, putBits}
 use Rattle.words.specs.Add.{Chain, addWords}
-use Rattle.words.specs.Sub.{subWords, ultWords, widened}
+use Rattle.words.specs.Extend.{extended}
+use Rattle.words.specs.Sub.{subWords, ultWords}
 use Rattle.words.specs.Eq.{eqWords}
 use Rattle.words.specs.Mul.{mulWords}
 use Rattle.words.specs.declared.shift.Direction.the-variants.{Left, Right}
@@ -59,9 +60,13 @@ inputStep k from j x =
 unfoldable pub inputWord : Source → ℕ → ℕ → Core → Word
 inputWord S k i s = iter (wideOf S k) (inputStep k (i * wideOf S k)) (fresh (s .net))
 
--- an initialised state, a bad and an ext share their operand's bits; above them stands known false
-unfoldable pub shareWord : Source → ℕ → ℕ → Core → Word
-shareWord S x i s = asIs (s .net) (widened (wideOf S x) (wordAt S (s .map) x i))
+-- an initialised state, a bad, an ext and a sext share their operand's bits; above them stand copies of the bit b
+unfoldable pub shareWord : Source → ℕ → ℕ → ℕ → Core → Word
+shareWord S b x i s = asIs (s .net) (extended b (wideOf S x) (wordAt S (s .map) x i))
+
+-- in a sext that is the operand's top bit, else known false
+unfoldable pub aboveOf : Source → List ℕ → ℕ → ℕ
+aboveOf S m k = pick (eqb (nodeOf S k .kind) SEXT) (getD (wordAt S m (nodeOf S k .a) 0) (wideOf S (nodeOf S k .a) - 1) 0) 0
 
 -- a choice by an unknown condition
 unfoldable pub chooseWord : Source → ℕ → ℕ → Core → Word
@@ -96,7 +101,7 @@ wordOwn S k i s =
 -- a write: the old memory is shared, and then written
 unfoldable pub writeOwn : Source → ℕ → Core → Core
 writeOwn S k s =
-    let t : Core = eachWord S k (shareWord S (nodeOf S k .a)) s in
+    let t : Core = eachWord S k (shareWord S 0 (nodeOf S k .a)) s in
     let x : Word =
     writeWords (listed S) (S .word) (S .addrs) (wordAt S (s .map) (nodeOf S k .b) 0) (wordAt S (s .map) (nodeOf S k .c) 0)
     (record { net = t .net; out = allAt S (t .map) k }) in
@@ -113,18 +118,18 @@ divideOwn S k s =
 -- an ite with a known condition shares the chosen side
 unfoldable pub iteOwn : Source → ℕ → Core → Core
 iteOwn S k s =
-    pick (isKnown (conditionOf S (s .map) k)) (eachWord S k (shareWord S (secondOf S (s .map) k)) s)
+    pick (isKnown (conditionOf S (s .map) k)) (eachWord S k (shareWord S 0 (secondOf S (s .map) k)) s)
     (eachWord S k (chooseWord S k) s)
 
--- a kind that shares its operand's bits: an initialised state, a bad, an ext
+-- a kind that shares its operand's bits: an initialised state, a bad, an ext, a sext
 abbrev pub shares : Node → Bool
-shares d = eqb (d .kind) STATE || eqb (d .kind) BAD || eqb (d .kind) EXT
+shares d = eqb (d .kind) STATE || eqb (d .kind) BAD || extends (d .kind)
 
 -- the own step of node k, by its kind
 unfoldable pub madeBy : Source → ℕ → Core → Core
 madeBy S k s =
     pick (given (nodeOf S k)) (eachWord S k (inputWord S k) s)
-    (pick (shares (nodeOf S k)) (eachWord S k (shareWord S (nodeOf S k .a)) s)
+    (pick (shares (nodeOf S k)) (eachWord S k (shareWord S (aboveOf S (s .map) k) (nodeOf S k .a)) s)
     (pick (eqb (nodeOf S k .kind) ITE) (iteOwn S k s)
     (pick (divides (nodeOf S k .kind)) (divideOwn S k s)
     (pick (eqb (nodeOf S k .kind) READ) (eachWord S k (readWord S k) s)

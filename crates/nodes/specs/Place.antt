@@ -9,7 +9,7 @@ use Rattle.gates.specs.Made.{MadeBit}
 use Rattle.words.specs.declared.each.Bitwise.the-variants as op
 use Rattle.words.specs.Num.{blank}
 use Rattle.words.specs.Each.{Word, eachBit, putBits}
-use Rattle.words.specs.Sub.{widened}
+use Rattle.words.specs.Extend.{extended}
 use Rattle.division.specs.Rows.{Checked}
 use Rattle.division.specs.Divide.{divideWords}
 use Rattle.memory.specs.Read.{readWords}
@@ -28,9 +28,9 @@ inputs node w i x = iter w (inputStep node (i * w)) (fresh (x .net))
 unfoldable pub choices : ℕ → ℕ → ℕ → ℕ → ℕ → Word → Word
 choices c a b w i x = eachBit (op.Choose (getD (x .out) c 0)) (take w (drop (a + i * w) (x .out))) (take w (drop (b + i * w) (x .out))) w (fresh (x .net))
 
--- word i of those from `from` on, v wide, shared by word i of those from `to` on, w wide
-unfoldable pub shareAt : ℕ → ℕ → ℕ → ℕ → ℕ → List ℕ → List ℕ
-shareAt from v to w i m = putBits (to + i * w) (widened v (take v (drop (from + i * v) m))) w m
+-- word i of those from `from` on, v wide, shared by word i of those from `to` on, w wide; above it stand copies of the bit b
+unfoldable pub shareAt : ℕ → ℕ → ℕ → ℕ → ℕ → ℕ → List ℕ → List ℕ
+shareAt b from v to w i m = putBits (to + i * w) (extended b v (take v (drop (from + i * v) m))) w m
 
 -- a bit as a word's lowest
 abbrev pub inFront : List ℕ → MadeBit → Word
@@ -55,6 +55,6 @@ reading addrs mem adr w i x = readWords (length addrs) w addrs (take (length add
 -- a memory with a word written at an address: the old memory's bits stand from `old` on, and are shared by those from `to` on; address and value from adr and from val on
 unfoldable pub writeAt : List ℕ → ℕ → ℕ → ℕ → ℕ → ℕ → Word → Word
 writeAt addrs old adr val to w x =
-    let m : List ℕ = iter (length addrs) (shareAt old w to w) (x .out) in
+    let m : List ℕ = iter (length addrs) (shareAt 0 old w to w) (x .out) in
     let y : Word = writeWords (length addrs) w addrs (take w (drop adr (x .out))) (take w (drop val (x .out))) (asIs (x .net) (take (length addrs * w) (drop to m))) in
     asIs (y .net) (putBits to (y .out) (length addrs * w) m)

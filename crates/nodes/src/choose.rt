@@ -97,7 +97,7 @@ pub fn ite_node(
     let cond = condition(offs, map, node);
     if Gate::is_known(cond) {
         let side = second(node, cond);
-        share_node(table, addrs, word, offs, map, k, side);
+        share_node(table, addrs, word, offs, map, k, 0, side);
         return at;
     }
     let bit = offs[node.a as usize];

@@ -7,12 +7,13 @@ ghost use Rattle.table.specs.Kind as kinds;
 ghost use Rattle.table.specs.Node.{nodeAt};
 ghost use Rattle.nodes.specs.Source.{source};
 ghost use Rattle.nodes.specs.Own as own;
-ghost use Rattle.nodes.specs.Own.{madeBy, ownStep};
-ghost use Rattle.nodes.specs.Asked.{Makes, Turned, Owns, coreOf};
+ghost use Rattle.nodes.specs.Own.{aboveOf, madeBy, ownStep};
+ghost use Rattle.nodes.specs.Asked.{Stands, Makes, Turned, Owns, coreOf};
 use crate::choose::ite_node;
 use crate::divide::blocked;
 use crate::divide::divide_node;
 use crate::input::input_node;
+use crate::place::place_of;
 use crate::plain::word_node;
 use crate::read::read_node;
 use crate::share::share_node;
@@ -21,12 +22,13 @@ use gates::made::At;
 use table::Node;
 use table::field::is_given;
 use table::kind::BAD;
-use table::kind::EXT;
 use table::kind::ITE;
 use table::kind::READ;
+use table::kind::SEXT;
 use table::kind::STATE;
 use table::kind::WRITE;
 use table::kind::divides;
+use table::kind::extends;
 
 // How far a lowering has come: where the next gate goes, how many constraints there are, and 0 or the node at which it stopped.
 pub struct Progress {
@@ -35,11 +37,32 @@ pub struct Progress {
     pub stop: usize,
 }
 
-// A kind that shares its operand's bits: an initialised state, a bad, an ext.
+// A kind that shares its operand's bits: an initialised state, a bad, an ext, a sext.
 fn shares(node: Node) -> bool
     ensures { λ r. ⌜ r ≡ own.shares node ⌝ }
 {
-    (node.kind == STATE) | (node.kind == BAD) | (node.kind == EXT)
+    (node.kind == STATE) | (node.kind == BAD) | extends(node.kind)
+}
+
+// What stands above the shared bits: in a sext its operand's top bit, else known false.
+fn above_of(
+    table: &[u64],
+    addrs: &[u64],
+    word: u64,
+    offs: &[usize],
+    map: &[u32],
+    k: usize,
+    node: Node,
+) -> u32
+    requires { ⌜ Stands (source (now table) (now addrs) word) (now offs) (length (now map)) k × (node ≡ nodeAt (now table) k) ⌝ }
+    ensures { λ r. ⌜ r ≡ aboveOf (source (now (table .entry)) (now (addrs .entry)) word) (now (map .entry)) k ⌝ }
+{
+    if node.kind != SEXT {
+        return 0;
+    }
+    let shared = place_of(table, addrs, word, offs, node.a as usize);
+    let end = shared.off + shared.wide;
+    map[end - 1]
 }
 
 // Every kind but a division: no constraint is recorded.
@@ -61,7 +84,8 @@ fn make(
         return input_node(table, addrs, word, offs, gates, at, map, k);
     }
     if shares(node) {
-        share_node(table, addrs, word, offs, map, k, node.a as usize);
+        let above = above_of(table, addrs, word, offs, map, k, node);
+        share_node(table, addrs, word, offs, map, k, above, node.a as usize);
         return at;
     }
     if node.kind == ITE {

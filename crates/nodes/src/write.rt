@@ -40,7 +40,7 @@ pub fn write_at(
     each::put_bits(&mut address, 0, &map[adr..adr + w], w);
     let mut value = [0u32; 65];
     each::put_bits(&mut value, 0, &map[val..val + w], w);
-    share_words(old, w, to, n, w, map);
+    share_words(0, old, w, to, n, w, map);
     write::write_words(
         gates,
         at,

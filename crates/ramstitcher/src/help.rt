@@ -13,9 +13,9 @@ It reads lines of fields parted by one tab; numbers are decimal:
     word W                       first: how wide words and addresses are
     addr A                       up to 64: the addresses that memory has
     node N KIND WIDTH A B C IMM  up to 512, numbered from 1
-KIND is const input state not bad and or ext eq add ite sub ult mul divu rem
-sll srl read write; A B C are earlier nodes, or 0; IMM is a const's number;
-WIDTH 0 is memory.
+KIND is const input state not bad and or ext sext eq add ite sub ult mul divu
+rem sll srl read write; A B C are earlier nodes, or 0; IMM is a const's number;
+WIDTH 0 is memory; ext and sext widen A to WIDTH, by zeros or by its top bit.
 It prints all that the bad nodes lean on:
     gate G KIND X Y Z            0 false, 1 true, 2 bit Y of input X, 3 not,
         4 and, 5 nand, 6 or, 7 (not X) and Y, 8 and 9 carry and sum of X + Y,

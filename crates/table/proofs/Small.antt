@@ -8,14 +8,14 @@ use Rattle.table.specs.declared.Fault.the-variants.{Clear, Size, Address
 use Rattle.table.specs.Node.{fieldAt}
 use Rattle.table.specs.Sheet.{sizeGood, isAt, addressBad, addressesBad, operandsGood, sortGood, sortsGood, faultOf, nodeFault, nodeBad, nodesFault, tableFault, asksAt, asks}
 
--- width above 64 is 6, a missing operand of that node comes first; a const of width 0 is 6; kind 24 is 3, kind 19 is 4 whatever else is wrong; no nodes pass;
+-- width above 64 is 6, a missing operand of that node comes first; a const of width 0 is 6; kind 25 is 3, kind 19 is 4 whatever else is wrong; no nodes pass;
 -- 1 comes before 2, and a fault of a lower node before one of a higher
 pub edges : (tableFault (2 ∷ 65 ∷ 0 ∷ 0 ∷ 0 ∷ 0 ∷ []) [] 1 ≡ Sort 1)
     × (tableFault (4 ∷ 65 ∷ 0 ∷ 0 ∷ 0 ∷ 0 ∷ []) [] 1 ≡ Operand 1)
     × (tableFault (1 ∷ 0 ∷ 0 ∷ 0 ∷ 0 ∷ 0 ∷ []) [] 1 ≡ Sort 1)
-    × (tableFault (24 ∷ 99 ∷ 9 ∷ 0 ∷ 0 ∷ 0 ∷ []) [] 1 ≡ Kind 1)
+    × (tableFault (25 ∷ 99 ∷ 9 ∷ 0 ∷ 0 ∷ 0 ∷ []) [] 1 ≡ Kind 1)
     × (tableFault (19 ∷ 99 ∷ 9 ∷ 0 ∷ 0 ∷ 0 ∷ []) [] 1 ≡ NotLowered 1)
-    × (tableFault (2 ∷ 65 ∷ 0 ∷ 0 ∷ 0 ∷ 0 ∷ 24 ∷ 1 ∷ 0 ∷ 0 ∷ 0 ∷ 0 ∷ []) [] 1 ≡ Sort 1)
+    × (tableFault (2 ∷ 65 ∷ 0 ∷ 0 ∷ 0 ∷ 0 ∷ 25 ∷ 1 ∷ 0 ∷ 0 ∷ 0 ∷ 0 ∷ []) [] 1 ≡ Sort 1)
     × (tableFault [] [] 1 ≡ Clear)
     × (tableFault [] (1 ∷ 1 ∷ []) 1 ≡ Address)
     × (tableFault [] (2 ∷ []) 1 ≡ Address)
@@ -23,6 +23,12 @@ pub edges : (tableFault (2 ∷ 65 ∷ 0 ∷ 0 ∷ 0 ∷ 0 ∷ []) [] 1 ≡ Sort 
     × (tableFault [] [] 65 ≡ Size)
 unfolding pick first fieldAt sizeGood isAt addressBad addressesBad operandsGood sortGood sortsGood faultOf nodeFault nodeBad nodesFault tableFault
 edges = (refl, refl, refl, refl, refl, refl, refl, refl, refl, refl, refl)
+
+-- an ext narrower than its operand is 6; a sext by no bits, of width 1 over width 1, is none
+pub extensions : (tableFault (2 ∷ 2 ∷ 0 ∷ 0 ∷ 0 ∷ 0 ∷ 7 ∷ 1 ∷ 1 ∷ 0 ∷ 0 ∷ 0 ∷ []) [] 1 ≡ Sort 2)
+    × (tableFault (2 ∷ 1 ∷ 0 ∷ 0 ∷ 0 ∷ 0 ∷ 24 ∷ 1 ∷ 1 ∷ 0 ∷ 0 ∷ 0 ∷ []) [] 1 ≡ Clear)
+unfolding pick first fieldAt sizeGood isAt addressBad addressesBad operandsGood sortGood sortsGood faultOf nodeFault nodeBad nodesFault tableFault
+extensions = (refl, refl)
 
 pub inputs : ℕ → List ℕ
 inputs zero = []

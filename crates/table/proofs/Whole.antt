@@ -15,7 +15,7 @@ use Rattle.loops.proofs.Loop.{first-true, first-below, first-found, first-le, p
 use Rattle.table.specs.declared.Fault.{Fault}
 use Rattle.table.specs.declared.Fault.the-variants.{Clear, Size, Address, Kind, NotLowered, Operand, Sort}
 use Rattle.table.specs.declared.Node.{Node}
-use Rattle.table.specs.Kind.{CONST, INPUT, STATE, NOT, BAD, AND, EXT, EQ, ADD, ITE, SUB, ULT, MUL, DIVU, REM, READ, WRITE, OR, SLL, SRL, named, lowered, mayUseA, usesA, usesB, usesC, usesImm, evenly, compares}
+use Rattle.table.specs.Kind.{CONST, INPUT, STATE, NOT, BAD, AND, EXT, EQ, ADD, ITE, SUB, ULT, MUL, DIVU, REM, READ, WRITE, OR, SLL, SRL, SEXT, named, lowered, mayUseA, usesA, usesB, usesC, usesImm, evenly, extends, compares}
 use Rattle.table.specs.Node.{fieldAt, nodes, nodeAt, kindOf, widthOf, aOf, bOf, cOf, Narrow, Fine}
 use Rattle.table.specs.Sheet.{isClear, sizeGood, isAt, addressBad, addressesBad, operand, operandsGood, sortGood, sortsGood, faultOf, nodeFault, nodeBad, nodesFault, tableFault, asksAt, asks}
 use Rattle.table.proofs.field.Laws.{field-out}
@@ -84,6 +84,11 @@ pub record Compared (v va vb : ℕ) : Type 0 where
   pub word : 1 ≤ va
   pub same : vb ≡ va
 
+-- over a word, and at least as wide
+pub record Extended (v va : ℕ) : Type 0 where
+  pub word : 1 ≤ va
+  pub wide : va ≤ v
+
 -- the kinds with what their sort rule says
 pub data Rule (w : ℕ) (d : Node) (va vb vc : ℕ) : Type 0 where
   is-const : d .kind ≡ CONST → 1 ≤ d .width → d .imm < 2 ^ d .width → Rule w d va vb vc
@@ -92,7 +97,7 @@ pub data Rule (w : ℕ) (d : Node) (va vb vc : ℕ) : Type 0 where
   is-not : d .kind ≡ NOT → 1 ≤ d .width → va ≡ d .width → Rule w d va vb vc
   is-bad : d .kind ≡ BAD → d .width ≡ 1 → va ≡ 1 → Rule w d va vb vc
   is-and : d .kind ≡ AND → Even (d .width) va vb → Rule w d va vb vc
-  is-ext : d .kind ≡ EXT → d .width ≡ 64 → 1 ≤ va → Rule w d va vb vc
+  is-ext : d .kind ≡ EXT → Extended (d .width) va → Rule w d va vb vc
   is-eq : d .kind ≡ EQ → Compared (d .width) va vb → Rule w d va vb vc
   is-add : d .kind ≡ ADD → Even (d .width) va vb → Rule w d va vb vc
   is-ite : d .kind ≡ ITE → va ≡ 1 → vb ≡ d .width → vc ≡ d .width → Rule w d va vb vc
@@ -106,6 +111,7 @@ pub data Rule (w : ℕ) (d : Node) (va vb vc : ℕ) : Type 0 where
   is-or : d .kind ≡ OR → Even (d .width) va vb → Rule w d va vb vc
   is-sll : d .kind ≡ SLL → Even (d .width) va vb → Rule w d va vb vc
   is-srl : d .kind ≡ SRL → Even (d .width) va vb → Rule w d va vb vc
+  is-sext : d .kind ≡ SEXT → Extended (d .width) va → Rule w d va vb vc
 
 and3 : (a b c : Bool) → (a && b && c) ≡ true → (a ≡ true) × (b ≡ true) × (c ≡ true)
 and3 a b c e = let p = both (a && b) c e in let q = both a b (p .0) in (q .0, q .1, p .1)
@@ -169,8 +175,11 @@ module _ (w : ℕ) (d : Node) (va vb vc : ℕ) where
   by-bad : (eqb (d .kind) BAD && eqb (d .width) 1 && eqb va 1) ≡ true → R
   by-bad h = let p = and3 (eqb (d .kind) BAD) (eqb (d .width) 1) (eqb va 1) h in is-bad (eqb-true (d .kind) BAD (p .0)) (eqb-true (d .width) 1 (p .1)) (eqb-true va 1 (p .2))
 
-  by-ext : (eqb (d .kind) EXT && eqb (d .width) 64 && leb 1 va) ≡ true → R
-  by-ext h = let p = and3 (eqb (d .kind) EXT) (eqb (d .width) 64) (leb 1 va) h in is-ext (eqb-true (d .kind) EXT (p .0)) (eqb-true (d .width) 64 (p .1)) (leb-true 1 va (p .2))
+  by-extend : (extends (d .kind) && leb 1 va && leb va (d .width)) ≡ true → R
+  by-extend h =
+      let p = and3 (extends (d .kind)) (leb 1 va) (leb va (d .width)) h in
+      let s : Extended (d .width) va = record { word = leb-true 1 va (p .1); wide = leb-true va (d .width) (p .2) } in
+      either (eqb (d .kind) EXT) (eqb (d .kind) SEXT) R (λ e. is-ext (eqb-true (d .kind) EXT e) s) (λ e. is-sext (eqb-true (d .kind) SEXT e) s) (p .0)
 
   by-ite : (eqb (d .kind) ITE && eqb va 1 && eqb vb (d .width) && eqb vc (d .width)) ≡ true → R
   by-ite h =
@@ -193,7 +202,7 @@ module _ (w : ℕ) (d : Node) (va vb vc : ℕ) where
       let p = both (leb (d .width) 64) _ e in (
         leb-true (d .width) 64 (p .0),
         either _ _ R (either _ _ R (either _ _ R (either _ _ R (either _ _ R (either _ _ R (either _ _ R (either _ _ R (either _ _ R (either _ _ R
-            by-const (λ h. is-input (eqb-true (d .kind) INPUT h))) by-state) by-not) by-even) by-bad) by-ext) by-compare) by-ite) by-read) by-write (p .1),
+            by-const (λ h. is-input (eqb-true (d .kind) INPUT h))) by-state) by-not) by-even) by-bad) by-extend) by-compare) by-ite) by-read) by-write (p .1),
       )
 
 -- a node without fault

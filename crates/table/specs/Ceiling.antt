@@ -32,7 +32,7 @@ unfoldable pub iteGates : ℕ → ℕ → ℕ → ℕ
 iteGates n w v = 3 * sizeOf Bit n w v
 
 -- gates of a node by its kind, over a first operand x wide: n addresses are listed, w is the word width.
--- const, bad, ext and an initialised state make none
+-- const, bad, ext, sext and an initialised state make none
 unfoldable pub plainGates : ℕ → ℕ → Node → ℕ → ℕ
 plainGates n w d x =
     pick (eqb (d .kind) NOT || eqb (d .kind) AND || eqb (d .kind) OR) (d .width)

@@ -1,5 +1,5 @@
 -- The kinds of nodes: their numbers in document 01, and what is a matter of the kind alone. A new kind is added here.
-use mathlib.Core.Bool.{Bool, _&&_, _||_}
+use mathlib.Core.Bool.{Bool, not, _&&_, _||_}
 use Prim.Native.Nat.{ℕ}
 use lib.Dec.{eqb, leb}
 
@@ -63,12 +63,15 @@ SLL = 20
 abbrev pub SRL : ℕ
 SRL = 21
 
+abbrev pub SEXT : ℕ
+SEXT = 24
+
 -- a number that names a kind, and a kind that is lowered
 abbrev pub named : ℕ → Bool
-named k = leb 1 k && leb k 23
+named k = leb 1 k && leb k SEXT
 
 abbrev pub lowered : ℕ → Bool
-lowered k = leb k WRITE || eqb k OR || eqb k SLL || eqb k SRL
+lowered k = leb k WRITE || eqb k OR || eqb k SLL || eqb k SRL || eqb k SEXT
 
 -- the operands that a kind uses: const, input and state have none, but a state may have an initial node as its a
 abbrev pub mayUseA : ℕ → Bool
@@ -78,7 +81,7 @@ abbrev pub usesA : ℕ → Bool
 usesA k = leb NOT k
 
 abbrev pub usesB : ℕ → Bool
-usesB k = eqb k AND || leb EQ k
+usesB k = eqb k AND || (leb EQ k && not (eqb k SEXT))
 
 abbrev pub usesC : ℕ → Bool
 usesC k = eqb k ITE || eqb k WRITE
@@ -95,6 +98,10 @@ compares k = eqb k EQ || eqb k ULT
 
 abbrev pub divides : ℕ → Bool
 divides k = eqb k DIVU || eqb k REM
+
+-- the two extensions
+abbrev pub extends : ℕ → Bool
+extends k = eqb k EXT || eqb k SEXT
 
 abbrev pub shifts : ℕ → Bool
 shifts k = eqb k SLL || eqb k SRL

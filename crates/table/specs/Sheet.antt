@@ -8,7 +8,7 @@ use Rattle.loops.specs.Loop.{pick, first}
 use Rattle.table.specs.declared.Fault.{Fault}
 use Rattle.table.specs.declared.Fault.the-variants.{Clear, Size, Address, Kind, NotLowered, Operand, Sort}
 use Rattle.table.specs.declared.Node.{Node}
-use Rattle.table.specs.Kind.{CONST, INPUT, STATE, NOT, BAD, EXT, ITE, READ, WRITE, named, lowered, mayUseA, usesA, usesB, usesC, usesImm, evenly, compares}
+use Rattle.table.specs.Kind.{CONST, INPUT, STATE, NOT, BAD, ITE, READ, WRITE, named, lowered, mayUseA, usesA, usesB, usesC, usesImm, evenly, extends, compares}
 use Rattle.table.specs.Node.{kindOf, widthOf, nodeAt, nodes}
 
 -- the sheet's number of a fault, and the node beside it; 0 is no fault
@@ -70,8 +70,8 @@ sortGood w d va vb vc =
     || (eqb (d .kind) NOT && leb 1 (d .width) && eqb va (d .width)) || (evenly (d .kind) && leb 1 (d .width) && eqb va (d .width) && eqb vb (d .width))
     -- bad is 1 wide over 1
     || (eqb (d .kind) BAD && eqb (d .width) 1 && eqb va 1)
-    -- ext takes a word and is 64 wide
-    || (eqb (d .kind) EXT && eqb (d .width) 64 && leb 1 va)
+    -- ext and sext take a word and are at least as wide
+    || (extends (d .kind) && leb 1 va && leb va (d .width))
     -- eq and ult are 1 wide over two words of one width
     || (compares (d .kind) && eqb (d .width) 1 && leb 1 va && eqb vb va)
     -- ite has a condition 1 wide and one sort, word or memory, for the rest

@@ -41,16 +41,18 @@ pub const SLL: u64 = 20;
 
 pub const SRL: u64 = 21;
 
+pub const SEXT: u64 = 24;
+
 pub fn named(k: u64) -> bool
     ensures { λ r. ⌜ r ≡ kinds.named k ⌝ }
 {
-    (1 <= k) & (k <= 23)
+    (1 <= k) & (k <= SEXT)
 }
 
 pub fn lowered(k: u64) -> bool
     ensures { λ r. ⌜ r ≡ kinds.lowered k ⌝ }
 {
-    (k <= WRITE) | (k == OR) | (k == SLL) | (k == SRL)
+    (k <= WRITE) | (k == OR) | (k == SLL) | (k == SRL) | (k == SEXT)
 }
 
 // A state's a is its initial node, or 0.
@@ -69,7 +71,7 @@ pub fn uses_a(k: u64) -> bool
 pub fn uses_b(k: u64) -> bool
     ensures { λ r. ⌜ r ≡ kinds.usesB k ⌝ }
 {
-    (k == AND) | (EQ <= k)
+    (k == AND) | ((EQ <= k) & (k != SEXT))
 }
 
 pub fn uses_c(k: u64) -> bool
@@ -109,6 +111,13 @@ pub fn divides(k: u64) -> bool
     ensures { λ r. ⌜ r ≡ kinds.divides k ⌝ }
 {
     (k == DIVU) | (k == REM)
+}
+
+// The two extensions.
+pub fn extends(k: u64) -> bool
+    ensures { λ r. ⌜ r ≡ kinds.extends k ⌝ }
+{
+    (k == EXT) | (k == SEXT)
 }
 
 pub fn shifts(k: u64) -> bool

@@ -11,7 +11,6 @@ use crate::field::node_at;
 use crate::field::width_at;
 use crate::kind::BAD;
 use crate::kind::CONST;
-use crate::kind::EXT;
 use crate::kind::INPUT;
 use crate::kind::ITE;
 use crate::kind::NOT;
@@ -20,6 +19,7 @@ use crate::kind::STATE;
 use crate::kind::WRITE;
 use crate::kind::compares;
 use crate::kind::evenly;
+use crate::kind::extends;
 use crate::kind::lowered;
 use crate::kind::may_use_a;
 use crate::kind::named;
@@ -147,7 +147,7 @@ fn sort_good(w: u64, node: Node, va: u64, vb: u64, vc: u64) -> bool
             | ((k == NOT) & (1 <= v) & (va == v))
             | (evenly(k) & (1 <= v) & (va == v) & (vb == v))
             | ((k == BAD) & (v == 1) & (va == 1))
-            | ((k == EXT) & (v == 64) & (1 <= va))
+            | (extends(k) & (1 <= va) & (va <= v))
             | (compares(k) & (v == 1) & (1 <= va) & (vb == va))
             | ((k == ITE) & (va == 1) & (vb == v) & (vc == v))
             | ((k == READ) & (v == w) & (va == 0) & (vb == w))

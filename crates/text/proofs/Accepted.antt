@@ -12,7 +12,7 @@ use Rattle.loops.proofs.Loop.{both, first-true}
 use Rattle.text.specs.declared.number.Num.{Num}
 use Rattle.text.specs.declared.number.Num.the-variants.{Bad, Is}
 use Rattle.text.specs.Number.{decimal, number, valid, value}
-use Rattle.text.specs.Name.{same, wordName, addrName, nodeName, kindNames, isNamed, placeOf}
+use Rattle.text.specs.Name.{same, wordName, addrName, nodeName, kindNames, kindCount, isNamed, placeOf}
 use Rattle.text.specs.Rows.{rows}
 use Rattle.text.specs.Plain.{numberAt, kindAt, isPair, pairOf, isAddr, addrOf, isNode, nodeOf, lead, afterWord, plainRows, plainText}
 use Rattle.text.specs.Plain.Plain.{plain}
@@ -60,9 +60,9 @@ unfolding isAddr addrRow addrOf
 addr-written i r e = let p = pair-written addrName r e in (p .0, (refl, p .1))
 
 -- a kind's name
-kind-written : (s : List ℕ) → placeOf s < 23 → s ≡ getD kindNames (placeOf s) []
+kind-written : (s : List ℕ) → placeOf s < kindCount → s ≡ getD kindNames (placeOf s) []
 unfolding placeOf isNamed
-kind-written s h = sym (same-eq (getD kindNames (placeOf s) []) s (first-true (isNamed s) 23 h))
+kind-written s h = sym (same-eq (getD kindNames (placeOf s) []) s (first-true (isNamed s) kindCount h))
 
 -- a node's line
 node-written : (i : ℕ) (r : List (List ℕ)) → isNode i r ≡ true → (r ≡ nodeRow i (nodeOf r)) × NodeRecord (nodeOf r)
@@ -73,11 +73,11 @@ node-written i r e =
     let e₅ = both _ (valid (numberAt r 5)) (e₆ .0) in
     let e₄ = both _ (valid (numberAt r 4)) (e₅ .0) in
     let e₃ = both _ (valid (numberAt r 3)) (e₄ .0) in
-    let e₂ = both _ (ltb (kindAt r 2) 23) (e₃ .0) in
+    let e₂ = both _ (ltb (kindAt r 2) kindCount) (e₃ .0) in
     let eᵢ = both _ (eqb (value (numberAt r 1)) i) (e₂ .0) in
     let e₁ = both _ (valid (numberAt r 1)) (eᵢ .0) in
     let e₀ = both (eqb (length r) 8) (same nodeName (getD r 0 [])) (e₁ .0) in
-    let k : placeOf (getD r 2 []) < 23 = ltb-true (kindAt r 2) 23 (e₂ .1) in
+    let k : placeOf (getD r 2 []) < kindCount = ltb-true (kindAt r 2) kindCount (e₂ .1) in
     let z : placeOf (getD r 2 []) + 1 - 1 ≡ placeOf (getD r 2 []) = omega arith in
     let n₀ = same-eq nodeName (getD r 0 []) (e₀ .1) in
     let n₁ = valid-written (getD r 1 []) (number (getD r 1 [])) refl (e₁ .1) in

@@ -14,6 +14,7 @@ use Rattle.text.specs.declared.number.Num.{Num}
 use Rattle.text.specs.declared.field.Part.{Part}
 use Rattle.text.specs.declared.field.Field.{Field}
 use Rattle.text.specs.Number.{number, valid, value}
+use Rattle.text.specs.Name.{kindCount}
 use Rattle.text.specs.Key.{key, isKind}
 use Rattle.text.specs.Field.{parts, span, fieldAt, endOf, partAt, nameField, numberField, kindField}
 
@@ -59,7 +60,7 @@ module _ (x : List ℕ) (at : ℕ) (p : Part) (q : p ≡ partAt x at) (e : p .en
     unfolding numberField
     number-is n y v h g j = rw (g, j, h, field-is x at (p .end) e, ← a, ← q)
 
-    pub kind-is : (k m : ℕ) → k ≡ key (take (p .end - at) (drop at x)) → m ≡ first 23 (isKind k)
-        → _≡_ {A = Field} (record { good = f .good && f .tab && ltb m 23; value = m + 1; tab = p .tab; next = p .next }) (kindField x f)
+    pub kind-is : (k m : ℕ) → k ≡ key (take (p .end - at) (drop at x)) → m ≡ first kindCount (isKind k)
+        → _≡_ {A = Field} (record { good = f .good && f .tab && ltb m kindCount; value = m + 1; tab = p .tab; next = p .next }) (kindField x f)
     unfolding kindField
     kind-is k m h g = rw (g, h, field-is x at (p .end) e, ← a, ← q)

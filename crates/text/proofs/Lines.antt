@@ -9,7 +9,7 @@ use Rattle.loops.specs.Loop.{pick, first}
 use Rattle.text.specs.declared.field.Field.{Field}
 use Rattle.text.specs.declared.line.Node.{Node}
 use Rattle.text.specs.Number.{number, valid, value}
-use Rattle.text.specs.Name.{same, nodeName, placeOf}
+use Rattle.text.specs.Name.{same, nodeName, kindCount, placeOf}
 use Rattle.text.specs.Key.{key, pack, isKind}
 use Rattle.text.specs.Field.{span, fieldAt, partAt, nameField, numberField, kindField}
 use Rattle.text.specs.NodeLine.{nodeLine}
@@ -78,13 +78,13 @@ module _ (x : List ℕ) where
     unfolding nameField field fieldAt
     name-good at name f = name-is name (fieldAt x at) f (field-below at)
 
-    pub place-reads : (f : Field) (s : List ℕ) → Reads x f s → first 23 (isKind (key (fieldAt x (f .next)))) ≡ placeOf (field (after s))
+    pub place-reads : (f : Field) (s : List ℕ) → Reads x f s → first kindCount (isKind (key (fieldAt x (f .next)))) ≡ placeOf (field (after s))
     place-reads f s r = place-is (fieldAt x (f .next)) (field-below (f .next)) ∙ ap placeOf (field-reads f s r)
 
     pub kind-value : (f : Field) (s : List ℕ) → Reads x f s → kindField x f .value ≡ placeOf (field (after s)) + 1
     unfolding kindField
     kind-value f s r = rw (place-reads f s r)
 
-    pub kind-good : (f : Field) (s : List ℕ) → Reads x f s → kindField x f .good ≡ (f .good && tabbed s && ltb (placeOf (field (after s))) 23)
+    pub kind-good : (f : Field) (s : List ℕ) → Reads x f s → kindField x f .good ≡ (f .good && tabbed s && ltb (placeOf (field (after s))) kindCount)
     unfolding kindField
     kind-good f s r = rw (place-reads f s r, r .0)

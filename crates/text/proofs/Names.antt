@@ -12,7 +12,7 @@ use lib.Seq.{drop-cons}
 use borrow.Author.Tests.{lt-ltb, le-ltb, eq-eqb, ne-eqb, eqb-true, ltb-true, leb-true}
 use Rattle.loops.specs.Loop.{pick, first}
 use Rattle.loops.proofs.Loop.{first-found, first-more, first-done, both}
-use Rattle.text.specs.Name.{same, wordName, addrName, nodeName, kindNames, isNamed, placeOf}
+use Rattle.text.specs.Name.{same, wordName, addrName, nodeName, kindNames, kindCount, isNamed, placeOf}
 use Rattle.text.specs.Key.{pack, key, kindKeys, isKind}
 use Rattle.text.proofs.Elements.{Below, below-drop}
 
@@ -50,16 +50,16 @@ module _ (s : List ℕ) where
 
 -- the search of a kind's key
 module _ (k i : ℕ) (e : i ≡ first i (isKind k)) where
-  pub kind-found : i < 23 → getD kindKeys i 0 ≡ k → i ≡ first 23 (isKind k)
+  pub kind-found : i < kindCount → getD kindKeys i 0 ≡ k → i ≡ first kindCount (isKind k)
   unfolding isKind
-  kind-found h q = first-found (isKind k) 23 i true h e (sym (eq-eqb (getD kindKeys i 0) k q)) refl
+  kind-found h q = first-found (isKind k) kindCount i true h e (sym (eq-eqb (getD kindKeys i 0) k q)) refl
 
   pub kind-more : (getD kindKeys i 0 ≡ k → ⊥) → i + 1 ≡ first (i + 1) (isKind k)
   unfolding isKind
   kind-more q = first-more (isKind k) i false e (sym (ne-eqb (getD kindKeys i 0) k q)) refl
 
-  pub kind-none : 23 ≤ i → i ≤ 23 → i ≡ first 23 (isKind k)
-  kind-none h g = first-done (isKind k) i 23 h g e
+  pub kind-none : kindCount ≤ i → i ≤ kindCount → i ≡ first kindCount (isKind k)
+  kind-none h g = first-done (isKind k) i kindCount h g e
 
 -- the same bytes
 pub same-refl : (s : List ℕ) → same s s ≡ true
@@ -149,7 +149,7 @@ kinds-keys : keysOf kindNames ≡ kindKeys
 unfolding keysOf kindNames kindKeys key pack pick
 kinds-keys = refl
 
-kinds-count : length kindNames ≡ 23
+kinds-count : length kindNames ≡ kindCount
 unfolding kindNames
 kinds-count = refl
 
@@ -167,7 +167,7 @@ unfoldable places : ℕ → Bool
 places zero = true
 places (suc n) = eqb (placeOf (getD kindNames n [])) n && places n
 
-places-right : places 23 ≡ true
+places-right : places kindCount ≡ true
 unfolding places placeOf isNamed same kindNames first pick
 places-right = refl
 
@@ -180,8 +180,8 @@ place-at (suc n) i e h = go (decLt i n) (both (eqb (placeOf (getD kindNames n []
     go (yes l) p k = k l (p .1)
     go (no l) p k = let q : i ≡ n = omega arith in rw q (eqb-true (placeOf (getD kindNames n [])) n (p .0))
 
-pub kind-place : (i : ℕ) → i < 23 → placeOf (getD kindNames i []) ≡ i
-kind-place i h = place-at 23 i places-right h
+pub kind-place : (i : ℕ) → i < kindCount → placeOf (getD kindNames i []) ≡ i
+kind-place i h = place-at kindCount i places-right h
 
 first-same : (n : ℕ) (p q : ℕ → Bool) → ((i : ℕ) → i < n → p i ≡ q i) → first n p ≡ first n q
 unfolding first
@@ -189,9 +189,9 @@ first-same zero p q h = refl
 first-same (suc n) p q h = rw (first-same n p q (λ i l. h i (omega arith)), h n (omega arith))
 
 -- a kind is found by its key where it is found by its name
-pub place-is : (s : List ℕ) → Below 256 s → first 23 (isKind (key s)) ≡ placeOf s
+pub place-is : (s : List ℕ) → Below 256 s → first kindCount (isKind (key s)) ≡ placeOf s
 unfolding placeOf isKind isNamed
-place-is s b = first-same 23 (isKind (key s)) (isNamed s) (λ i h. rw (← kinds-keys) (named kindNames kinds-fine s b i (rw kinds-count h)))
+place-is s b = first-same kindCount (isKind (key s)) (isNamed s) (λ i h. rw (← kinds-keys) (named kindNames kinds-fine s b i (rw kinds-count h)))
 
 -- a line's name is found by its key
 pub name-is : (name s : List ℕ) → fine (name ∷ []) ≡ true → Below 256 s → eqb (key s) (key name) ≡ same name s

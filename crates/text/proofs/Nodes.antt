@@ -10,7 +10,7 @@ use Rattle.loops.proofs.Loop.{both}
 use Rattle.text.specs.declared.field.Field.{Field}
 use Rattle.text.specs.Number.{number, valid, value}
 use Rattle.text.specs.declared.line.Node.{Node}
-use Rattle.text.specs.Name.{same, nodeName, placeOf}
+use Rattle.text.specs.Name.{same, nodeName, kindCount, placeOf}
 use Rattle.text.specs.Key.{key}
 use Rattle.text.specs.Plain.{numberAt, kindAt, isNode, nodeOf}
 use Rattle.text.specs.Field.{nameField, numberField, kindField}
@@ -99,7 +99,7 @@ module _ (x : List ℕ) (b : Below 256 x) (at i : ℕ) (l : at ≤ length x) whe
     named : same nodeName (field s₀) ≡ true
     v₁ : valid (number (field s₁)) ≡ true
     is : eqb (value (number (field s₁))) i ≡ true
-    kind : ltb (placeOf (field s₂)) 23 ≡ true
+    kind : ltb (placeOf (field s₂)) kindCount ≡ true
     v₃ : valid (number (field s₃)) ≡ true
     v₄ : valid (number (field s₄)) ≡ true
     v₅ : valid (number (field s₅)) ≡ true
@@ -135,7 +135,7 @@ module _ (x : List ℕ) (b : Below 256 x) (at i : ℕ) (l : at ≤ length x) whe
       let p₅ = number-parts f₄ s₄ (r .r₄) (p₆ .0) in
       let p₄ = number-parts f₃ s₃ (r .r₃) (p₅ .0) in
       let p₃ = number-parts f₂ s₂ (r .r₂) (p₄ .0) in
-      let k = both (f₁ .good && tabbed s₁) (ltb (placeOf (field s₂)) 23) (sym (kind-good x b f₁ s₁ (r .r₁)) ∙ p₃ .0) in
+      let k = both (f₁ .good && tabbed s₁) (ltb (placeOf (field s₂)) kindCount) (sym (kind-good x b f₁ s₁ (r .r₁)) ∙ p₃ .0) in
       let h = both (f₁ .good) (tabbed s₁) (k .0) in
       let p₁ = number-parts f₀ s₀ (r .r₀) (h .0) in
       record {
@@ -207,7 +207,7 @@ module _ (x : List ℕ) (b : Below 256 x) (at i : ℕ) (l : at ≤ length x) whe
       let e₅ = both _ (valid (numberAt R 5)) (e₆ .0) in
       let e₄ = both _ (valid (numberAt R 4)) (e₅ .0) in
       let e₃ = both _ (valid (numberAt R 3)) (e₄ .0) in
-      let e₂ = both _ (ltb (kindAt R 2) 23) (e₃ .0) in
+      let e₂ = both _ (ltb (kindAt R 2) kindCount) (e₃ .0) in
       let eᵢ = both _ (eqb (value (numberAt R 1)) i) (e₂ .0) in
       let e₁ = both _ (valid (numberAt R 1)) (eᵢ .0) in
       let e₀ = both (eqb (length R) 8) (same nodeName (getD R 0 [])) (e₁ .0) in

@@ -9,7 +9,7 @@ use lib.ListN.{length, getD, drop, length-append}
 use lib.Seq.{drop-append-seam}
 use borrow.Author.Tests.{eq-eqb, lt-ltb, le-leb}
 use Rattle.loops.specs.Loop.{pick}
-use Rattle.text.specs.Name.{wordName, addrName, nodeName, kindNames}
+use Rattle.text.specs.Name.{wordName, addrName, nodeName, kindNames, kindCount}
 use Rattle.text.specs.Rows.{rows}
 use Rattle.text.specs.Plain.{numberAt, kindAt, isPair, pairOf, isAddr, addrOf, isNode, nodeOf, lead, afterWord, plainRows, plainText}
 use Rattle.text.specs.Plain.Plain.{plain}
@@ -86,10 +86,10 @@ addr-back i r h = let p = pair-back addrName (getD r 0 0) (h .1) in (p .0, ap (�
 node-back : (i : ℕ) (r : List ℕ) → i < 2 ^ 64 → NodeRecord r → (isNode i (nodeRow i r) ≡ true) × (nodeOf (nodeRow i r) ≡ r)
 unfolding isNode nodeOf nodeRow numberAt kindAt
 node-back i r l n =
-    let k : getD r 0 0 - 1 < 23 = omega (arith, n .kind .0, n .kind .1) in
+    let k : getD r 0 0 - 1 < kindCount = omega (arith, n .kind .0, n .kind .1) in
     let p = kind-place (getD r 0 0 - 1) k in
     let z : getD r 0 0 - 1 + 1 ≡ getD r 0 0 = omega (arith, n .kind .0) in (
-      rw (same-refl nodeName, number-decimal i l, eq-eqb i i refl, p, lt-ltb (getD r 0 0 - 1) 23 k, number-decimal (getD r 1 0) (n .width), number-decimal (getD r 2 0) (n .a), number-decimal (getD r 3 0) (n .b), number-decimal (getD r 4 0) (n .c), number-decimal (getD r 5 0) (n .imm)),
+      rw (same-refl nodeName, number-decimal i l, eq-eqb i i refl, p, lt-ltb (getD r 0 0 - 1) kindCount k, number-decimal (getD r 1 0) (n .width), number-decimal (getD r 2 0) (n .a), number-decimal (getD r 3 0) (n .b), number-decimal (getD r 4 0) (n .c), number-decimal (getD r 5 0) (n .imm)),
       rw (p, z, number-decimal (getD r 1 0) (n .width), number-decimal (getD r 2 0) (n .a), number-decimal (getD r 3 0) (n .b), number-decimal (getD r 4 0) (n .c), number-decimal (getD r 5 0) (n .imm)) (six r (n .six)),
     )
 

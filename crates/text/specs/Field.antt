@@ -9,6 +9,7 @@ use Rattle.loops.specs.Loop.{pick, first}
 use Rattle.text.specs.declared.field.Part.{Part}
 use Rattle.text.specs.declared.field.Field.{Field}
 use Rattle.text.specs.Number.{number, valid, value}
+use Rattle.text.specs.Name.{kindCount}
 use Rattle.text.specs.Key.{key, isKind}
 
 -- a tab or a newline
@@ -58,8 +59,8 @@ numberField x f =
 unfoldable pub kindField : List ℕ → Field → Field
 kindField x f =
     record {
-      good = f .good && f .tab && ltb (first 23 (isKind (key (fieldAt x (f .next))))) 23;
-      value = first 23 (isKind (key (fieldAt x (f .next)))) + 1;
+      good = f .good && f .tab && ltb (first kindCount (isKind (key (fieldAt x (f .next))))) kindCount;
+      value = first kindCount (isKind (key (fieldAt x (f .next)))) + 1;
       tab = partAt x (f .next) .tab;
       next = partAt x (f .next) .next;
     }

@@ -25,7 +25,7 @@ unfoldable pub nodeName : List ℕ
 nodeName = 110 ∷ 111 ∷ 100 ∷ 101 ∷ []
 
 -- "kinds by the names above": 1 const, 2 input, 3 state, 4 not, 5 bad, 6 and, 7 ext, 8 eq, 9 add, 10 ite, 11 sub, 12 ult, 13 mul, 14 divu,
--- 15 rem, 16 read, 17 write; 18 or, 19 div, 20 sll, 21 srl, 22 next, 23 comment
+-- 15 rem, 16 read, 17 write, 18 or, 19 div, 20 sll, 21 srl, 22 next, 23 comment, 24 sext
 unfoldable pub kindNames : List (List ℕ)
 kindNames =
     (99 ∷ 111 ∷ 110 ∷ 115 ∷ 116 ∷ [])
@@ -51,11 +51,15 @@ kindNames =
     ∷ (115 ∷ 114 ∷ 108 ∷ [])
     ∷ (110 ∷ 101 ∷ 120 ∷ 116 ∷ [])
     ∷ (99 ∷ 111 ∷ 109 ∷ 109 ∷ 101 ∷ 110 ∷ 116 ∷ [])
+    ∷ (115 ∷ 101 ∷ 120 ∷ 116 ∷ [])
     ∷ []
+
+abbrev pub kindCount : ℕ
+kindCount = 24
 
 unfoldable pub isNamed : List ℕ → ℕ → Bool
 isNamed s i = same (getD kindNames i []) s
 
--- how many kinds stand before the one of this name; 23 where there is none
+-- how many kinds stand before the one of this name; their number where there is none
 unfoldable pub placeOf : List ℕ → ℕ
-placeOf s = first 23 (isNamed s)
+placeOf s = first kindCount (isNamed s)

@@ -9,7 +9,7 @@ use lib.ListN.{length, getD, drop}
 use Rattle.loops.specs.Loop.{pick}
 use Rattle.text.specs.declared.number.Num.{Num}
 use Rattle.text.specs.Number.{number, valid, value}
-use Rattle.text.specs.Name.{same, wordName, addrName, nodeName, placeOf}
+use Rattle.text.specs.Name.{same, wordName, addrName, nodeName, kindCount, placeOf}
 use Rattle.text.specs.Rows.{rows}
 
 unfoldable pub numberAt : List (List ℕ) → ℕ → Num
@@ -36,7 +36,7 @@ addrOf row = pairOf row ∷ []
 unfoldable pub isNode : ℕ → List (List ℕ) → Bool
 isNode i row =
     eqb (length row) 8 && same nodeName (getD row 0 []) && valid (numberAt row 1) && eqb (value (numberAt row 1)) i
-    && ltb (kindAt row 2) 23 && valid (numberAt row 3) && valid (numberAt row 4) && valid (numberAt row 5)
+    && ltb (kindAt row 2) kindCount && valid (numberAt row 3) && valid (numberAt row 4) && valid (numberAt row 5)
     && valid (numberAt row 6) && valid (numberAt row 7)
 
 -- its record: kind, width, a, b, c, imm

@@ -6,7 +6,7 @@ use lib.Dec.{eqb}
 use lib.ListN.{length, getD}
 use Rattle.loops.specs.Loop.{pick}
 use Rattle.text.specs.Number.{decimal}
-use Rattle.text.specs.Name.{wordName, addrName, nodeName, kindNames}
+use Rattle.text.specs.Name.{wordName, addrName, nodeName, kindNames, kindCount}
 
 -- fields parted by tabs
 unfoldable pub joined : List (List ℕ) → List ℕ
@@ -51,13 +51,13 @@ ended [] = []
 ended (c ∷ []) = pick (eqb c 10) (c ∷ []) (c ∷ 10 ∷ [])
 ended (c ∷ d ∷ cs) = c ∷ ended (d ∷ cs)
 
--- records as they are read: an address below 2^64; a kind of 1 to 23 and five numbers below 2^64
+-- records as they are read: an address below 2^64; a kind that has a name and five numbers below 2^64
 abbrev pub AddrRecord : List ℕ → Type 0
 AddrRecord r = (length r ≡ 1) × (getD r 0 0 < 2 ^ 64)
 
 pub record NodeRecord (r : List ℕ) : Type 0 where
   pub six : length r ≡ 6
-  pub kind : (1 ≤ getD r 0 0) × (getD r 0 0 ≤ 23)
+  pub kind : (1 ≤ getD r 0 0) × (getD r 0 0 ≤ kindCount)
   pub width : getD r 1 0 < 2 ^ 64
   pub a : getD r 2 0 < 2 ^ 64
   pub b : getD r 3 0 < 2 ^ 64

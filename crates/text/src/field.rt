@@ -1,4 +1,5 @@
 // Fields of the text, one after the other. The place in the text goes along by value: each field is found once.
+use crate::name::KIND_COUNT;
 use crate::name::key;
 use crate::name::kind_place;
 use crate::number::number;
@@ -105,7 +106,7 @@ pub fn kind_field(text: &[u8], before: Field) -> Field
     let e = p.end;
     let k = kind_place(key(&text[at..e]));
     Field {
-        good: before.good & before.tab & (k < 23),
+        good: before.good & before.tab & (k < KIND_COUNT),
         value: k as u64 + 1,
         tab: p.tab,
         next: p.next,

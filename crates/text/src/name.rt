@@ -4,6 +4,7 @@ use crate::number::byte;
 ghost use mathlib.Core.Path.{_≡_};
 ghost use Prim.Native.Nat.{_≤_};
 ghost use Rattle.loops.specs.Loop.{first};
+ghost use Rattle.text.specs.Name.{kindCount};
 ghost use Rattle.text.specs.Key.{key, isKind};
 
 // The keys of names: the bytes from the last to the first after a 1.
@@ -14,7 +15,9 @@ pub const ADDR: u64 = 0x1_7264_6461;
 pub const NODE: u64 = 0x1_6564_6f6e;
 
 // The kinds by their numbers, from 1.
-const KINDS: [u64; 23] = [
+pub const KIND_COUNT: usize = 24;
+
+const KINDS: [u64; KIND_COUNT] = [
     0x174_736e_6f63, // const
     0x174_7570_6e69, // input
     0x165_7461_7473, // state
@@ -38,6 +41,7 @@ const KINDS: [u64; 23] = [
     0x16c_7273, // srl
     0x1_7478_656e, // next
     0x174_6e65_6d6d_6f63, // comment
+    0x1_7478_6573, // sext
 ];
 
 // 0 for a name that is too long: it is no name's key.
@@ -56,12 +60,12 @@ pub fn key(s: &[u8]) -> u64
     k
 }
 
-// How many kinds stand before the one with this key; 23 where there is none.
+// How many kinds stand before the one with this key; their number where there is none.
 pub fn kind_place(k: u64) -> usize
-    ensures { λ r. ⌜ (r ≡ first 23 (isKind k)) × (r ≤ 23) ⌝ }
+    ensures { λ r. ⌜ (r ≡ first kindCount (isKind k)) × (r ≤ kindCount) ⌝ }
 {
     let mut i = 0;
-    while i < 23 {
+    while i < KIND_COUNT {
         if KINDS[i] == k {
             return i;
         }

@@ -14,7 +14,7 @@ use Rattle.loops.proofs.Loop.{iter-inv, pick-true, pick-false}
 use Rattle.table.specs.declared.Fault.the-variants.{Clear}
 use Rattle.table.specs.declared.Node.{Node}
 use Rattle.table.specs.declared.Unit.the-variants.{Slot}
-use Rattle.table.specs.Node.{nodes, nodeAt, aOf, bOf, cOf}
+use Rattle.table.specs.Node.{nodes, nodeAt, widthOf, aOf, bOf, cOf}
 use Rattle.table.specs.Sheet.{tableFault, isClear}
 use Rattle.table.proofs.size.Laws.{apart, begins, size-room}
 use Rattle.table.proofs.Whole.{is-clear}
@@ -30,11 +30,11 @@ record Within (o m : ℕ) (x y : List ℕ) : Type 0 where
   pub below : (k : ℕ) → k < o → getD y k 0 ≡ getD x k 0
   pub above : (k : ℕ) → o + m ≤ k → getD y k 0 ≡ getD x k 0
 
-module _ (l : List ℕ) (d : Node) (o a b c p : ℕ) (x : List ℕ) where
-  filled : (m : ℕ) → Within o m x (iter m (slotStep l d o a b c p) x)
+module _ (l : List ℕ) (d : Node) (v o a b c p : ℕ) (x : List ℕ) where
+  filled : (m : ℕ) → Within o m x (iter m (slotStep l d v o a b c p) x)
   unfolding slotStep
   filled m =
-      iter-inv (λ i y. Within o i x y) (slotStep l d o a b c p) x m
+      iter-inv (λ i y. Within o i x y) (slotStep l d v o a b c p) x m
       (record { long = refl; below = λ k h. refl; above = λ k h. refl })
       (λ i y h w.
       record {
@@ -45,15 +45,15 @@ module _ (l : List ℕ) (d : Node) (o a b c p : ℕ) (x : List ℕ) where
 
   -- each of the m slots is made of what stood there when its turn came
   at-step : (m j : ℕ) → j < suc m → o + suc m ≤ length x
-      → (j < m → getD (iter m (slotStep l d o a b c p) x) (o + j) 0 ≡ slotAt l d (iter j (slotStep l d o a b c p) x) a b c p j) → Dec (j < m)
-      → getD (iter (suc m) (slotStep l d o a b c p) x) (o + j) 0 ≡ slotAt l d (iter j (slotStep l d o a b c p) x) a b c p j
+      → (j < m → getD (iter m (slotStep l d v o a b c p) x) (o + j) 0 ≡ slotAt l d v (iter j (slotStep l d v o a b c p) x) a b c p j) → Dec (j < m)
+      → getD (iter (suc m) (slotStep l d v o a b c p) x) (o + j) 0 ≡ slotAt l d v (iter j (slotStep l d v o a b c p) x) a b c p j
   unfolding iter slotStep
-  at-step m j h r ih (yes q) = getD-set-other (iter m (slotStep l d o a b c p) x) (o + m) (o + j) _ 0 (omega arith) ∙ ih q
+  at-step m j h r ih (yes q) = getD-set-other (iter m (slotStep l d v o a b c p) x) (o + m) (o + j) _ 0 (omega arith) ∙ ih q
   at-step m j h r ih (no q) =
       let e : j ≡ m = omega arith in
-      rw e (getD-set-same (iter m (slotStep l d o a b c p) x) (o + m) _ 0 (omega (arith, filled m .long)))
+      rw e (getD-set-same (iter m (slotStep l d v o a b c p) x) (o + m) _ 0 (omega (arith, filled m .long)))
 
-  fill-at : (m j : ℕ) → j < m → o + m ≤ length x → getD (iter m (slotStep l d o a b c p) x) (o + j) 0 ≡ slotAt l d (iter j (slotStep l d o a b c p) x) a b c p j
+  fill-at : (m j : ℕ) → j < m → o + m ≤ length x → getD (iter m (slotStep l d v o a b c p) x) (o + j) 0 ≡ slotAt l d v (iter j (slotStep l d v o a b c p) x) a b c p j
   fill-at zero j h r = absurd (omega arith)
   fill-at (suc m) j h r = at-step m j h r (λ q. fill-at m j q (omega arith)) (decLt j m)
 
@@ -63,7 +63,7 @@ module _ (t l : List ℕ) where
 
   -- node i + 1, whose address stands at place p
   step : ℕ → ℕ → ℕ → List ℕ → List ℕ
-  step i p = slotStep l (nodeAt t (i + 1)) (offset t l (i + 1)) (offset t l (aOf t (i + 1))) (offset t l (bOf t (i + 1))) (offset t l (cOf t (i + 1))) p
+  step i p = slotStep l (nodeAt t (i + 1)) (widthOf t (aOf t (i + 1))) (offset t l (i + 1)) (offset t l (aOf t (i + 1))) (offset t l (bOf t (i + 1))) (offset t l (cOf t (i + 1))) p
 
   node-given : (i : ℕ) (x : List ℕ) → nodeGiven t i ≡ true → nodeStep t l i x ≡ x
   unfolding nodeStep
@@ -76,7 +76,7 @@ module _ (t l : List ℕ) where
   node-within : (i : ℕ) (x : List ℕ) (b : Bool) → nodeGiven t i ≡ b → Within (offset t l (i + 1)) (slots t l i) x (nodeStep t l i x)
   unfolding step
   node-within i x true e = rw (node-given i x e) (record { long = refl; below = λ k h. refl; above = λ k h. refl })
-  node-within i x false e = rw (node-made i x e) (filled l (nodeAt t (i + 1)) (offset t l (i + 1)) (offset t l (aOf t (i + 1))) (offset t l (bOf t (i + 1))) (offset t l (cOf t (i + 1))) (place i x) x (slots t l i))
+  node-within i x false e = rw (node-made i x e) (filled l (nodeAt t (i + 1)) (widthOf t (aOf t (i + 1))) (offset t l (i + 1)) (offset t l (aOf t (i + 1))) (offset t l (bOf t (i + 1))) (offset t l (cOf t (i + 1))) (place i x) x (slots t l i))
 
   module _ (v : List ℕ) where
     other : (i j k : ℕ) (x : List ℕ) → j < slots t l i → nodeGiven t i ≡ true → Dec (i < k) → Dec (k < i)
@@ -126,7 +126,7 @@ module _ (t l : List ℕ) where
       pub agrees : Agrees i y
       pub agreed : Agrees i z
       pub made : getD (iter (nodes t) (nodeStep t l) v) (offset t l (i + 1) + j) 0
-          ≡ slotAt l (nodeAt t (i + 1)) y (offset t l (aOf t (i + 1))) (offset t l (bOf t (i + 1))) (offset t l (cOf t (i + 1))) (placeAt l (nodeAt t (i + 1)) z (offset t l (bOf t (i + 1)))) j
+          ≡ slotAt l (nodeAt t (i + 1)) (widthOf t (aOf t (i + 1))) y (offset t l (aOf t (i + 1))) (offset t l (bOf t (i + 1))) (offset t l (cOf t (i + 1))) (placeAt l (nodeAt t (i + 1)) z (offset t l (bOf t (i + 1)))) j
 
     pub worked : (i j : ℕ) → i < nodes t → j < slots t l i → nodeGiven t i ≡ false → total t l ≤ length v → Worked i j
     unfolding step place
@@ -134,11 +134,11 @@ module _ (t l : List ℕ) where
         record {
           y = iter j (step i (place i y0)) y0;
           z = y0;
-          agrees = λ k p. filled l (nodeAt t (i + 1)) o _ _ _ (place i y0) y0 j .below k p ∙ sym (later i (nodes t) k (omega arith) p);
+          agrees = λ k p. filled l (nodeAt t (i + 1)) _ o _ _ _ (place i y0) y0 j .below k p ∙ sym (later i (nodes t) k (omega arith) p);
           agreed = λ k p. sym (later i (nodes t) k (omega arith) p);
           made =
               later (suc i) (nodes t) (o + j) h (omega (arith, next))
-              ∙ (ap (λ x. getD x (o + j) 0) (one-more i g) ∙ fill-at l (nodeAt t (i + 1)) o _ _ _ (place i y0) y0 (slots t l i) j q (omega (arith, size-room Slot t (length l) 0 i h, long-at i)));
+              ∙ (ap (λ x. getD x (o + j) 0) (one-more i g) ∙ fill-at l (nodeAt t (i + 1)) _ o _ _ _ (place i y0) y0 (slots t l i) j q (omega (arith, size-room Slot t (length l) 0 i h, long-at i)));
         }
       where
         y0 : List ℕ

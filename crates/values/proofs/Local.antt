@@ -14,12 +14,12 @@ use Rattle.loops.specs.Loop.{pick, iter, bit}
 use Rattle.table.specs.declared.Node.{Node}
 use Rattle.table.specs.Kind.{usesA, usesB, usesC, accesses}
 use Rattle.table.specs.Node.{nodes, nodeAt, widthOf, aOf, bOf, cOf}
-use Rattle.table.proofs.Whole.{Sound, Rule, is-const, is-input, is-state, is-not, is-bad, is-and, is-ext, is-eq, is-add, is-ite, is-sub, is-ult, is-mul, is-divu, is-rem, is-read, is-write, is-or, is-sll, is-srl, within, each-sound}
+use Rattle.table.proofs.Whole.{Sound, Rule, is-const, is-input, is-state, is-not, is-bad, is-and, is-ext, is-eq, is-add, is-ite, is-sub, is-ult, is-mul, is-divu, is-rem, is-read, is-write, is-or, is-sll, is-srl, is-sext, within, each-sound}
 use Rattle.values.specs.declared.Answer.the-variants.{Done}
-use Rattle.values.specs.Value.{listed, notWord, addWord, subWord, mulWord, divWord, remWord, sllWord, srlWord, readValue, writeValue, iteValue, placeAt, slotAt}
+use Rattle.values.specs.Value.{listed, notWord, addWord, subWord, mulWord, divWord, remWord, sllWord, srlWord, sextWord, readValue, writeValue, iteValue, placeAt, slotAt}
 use Rattle.values.specs.Eval.{slots, offset, nodeGiven, nodeStep, evalWords}
 use Rattle.values.specs.Frame.{Valued}
-use Rattle.values.proofs.ByKind.{at-const, at-state, at-not, at-bad, at-and, at-ext, at-eq, at-add, at-ite, at-sub, at-ult, at-mul, at-divu, at-rem, at-read, at-write, at-or, at-sll, at-srl, place-access}
+use Rattle.values.proofs.ByKind.{at-const, at-state, at-not, at-bad, at-and, at-ext, at-eq, at-add, at-ite, at-sub, at-ult, at-mul, at-divu, at-rem, at-read, at-write, at-or, at-sll, at-srl, at-sext, place-access}
 use Rattle.values.proofs.Seen.{no-input, initial, reach, see-word, see-memory, see-same}
 use Rattle.values.proofs.Kept.{kept, worked, finished}
 
@@ -27,6 +27,10 @@ module _ (t l : List ℕ) (w i : ℕ) (x y : List ℕ) (j : ℕ) (pos : 1 ≤ w)
     (agrees : (k : ℕ) → k < offset t l (i + 1) → getD y k 0 ≡ getD x k 0) (z : List ℕ) (agreed : (k : ℕ) → k < offset t l (i + 1) → getD z k 0 ≡ getD x k 0) where
   abbrev d : Node
   d = nodeAt t (i + 1)
+
+  -- the first operand's width
+  abbrev va : ℕ
+  va = widthOf t (aOf t (i + 1))
 
   abbrev oa : ℕ
   oa = offset t l (aOf t (i + 1))
@@ -63,14 +67,14 @@ module _ (t l : List ℕ) (w i : ℕ) (x y : List ℕ) (j : ℕ) (pos : 1 ≤ w)
   same p h g z = see-same t l w i Alike all p j h g z inside
 
   Local : Type 0
-  Local = slotAt l d y oa ob oc pz j ≡ slotAt l d x oa ob oc px j
+  Local = slotAt l d va y oa ob oc pz j ≡ slotAt l d va x oa ob oc px j
 
   -- a kind that takes a word, and one that takes two
-  one : (f : ℕ → ℕ) → slotAt l d y oa ob oc pz j ≡ f (getD y oa 0) → slotAt l d x oa ob oc px j ≡ f (getD x oa 0) → usesA (d .kind) ≡ true → 1 ≤ widthOf t (aOf t (i + 1)) → Local
+  one : (f : ℕ → ℕ) → slotAt l d va y oa ob oc pz j ≡ f (getD y oa 0) → slotAt l d va x oa ob oc px j ≡ f (getD x oa 0) → usesA (d .kind) ≡ true → 1 ≤ widthOf t (aOf t (i + 1)) → Local
   unfolding Local
   one f p q u h = p ∙ (ap f (word (aOf t (i + 1)) (s .operands .a-used u) (s .operands .a) h) ∙ sym q)
 
-  two : (f : ℕ → ℕ → ℕ) → slotAt l d y oa ob oc pz j ≡ f (getD y oa 0) (getD y ob 0) → slotAt l d x oa ob oc px j ≡ f (getD x oa 0) (getD x ob 0)
+  two : (f : ℕ → ℕ → ℕ) → slotAt l d va y oa ob oc pz j ≡ f (getD y oa 0) (getD y ob 0) → slotAt l d va x oa ob oc px j ≡ f (getD x oa 0) (getD x ob 0)
       → usesA (d .kind) ≡ true → usesB (d .kind) ≡ true → 1 ≤ widthOf t (aOf t (i + 1)) → 1 ≤ widthOf t (bOf t (i + 1)) → Local
   unfolding Local
   two f p q u m h k =
@@ -103,45 +107,46 @@ module _ (t l : List ℕ) (w i : ℕ) (x y : List ℕ) (j : ℕ) (pos : 1 ≤ w)
 
   by-rule : Rule w d (widthOf t (aOf t (i + 1))) (widthOf t (bOf t (i + 1))) (widthOf t (cOf t (i + 1))) → Local
   unfolding Local
-  by-rule (is-const e h m) = at-const l d y oa ob oc pz j e ∙ sym (at-const l d x oa ob oc px j e)
+  by-rule (is-const e h m) = at-const l d va y oa ob oc pz j e ∙ sym (at-const l d va x oa ob oc px j e)
   by-rule (is-input e) = absurd (no-input d e free)
   by-rule (is-state e (inl z)) = absurd (omega (arith, initial d e free))
-  by-rule (is-state e (inr z)) = at-state l d y oa ob oc pz j e ∙ (same (aOf t (i + 1)) (initial d e free) (s .operands .a) z ∙ sym (at-state l d x oa ob oc px j e))
-  by-rule (is-not e h z) = one (notWord (d .width)) (at-not l d y oa ob oc pz j e) (at-not l d x oa ob oc px j e) (ap usesA e) (omega arith)
-  by-rule (is-bad e h z) = one (λ v. v) (at-bad l d y oa ob oc pz j e) (at-bad l d x oa ob oc px j e) (ap usesA e) (omega arith)
-  by-rule (is-ext e h z) = one (λ v. v) (at-ext l d y oa ob oc pz j e) (at-ext l d x oa ob oc px j e) (ap usesA e) z
-  by-rule (is-and e z) = two bitAnd (at-and l d y oa ob oc pz j e) (at-and l d x oa ob oc px j e) (ap usesA e) (ap usesB e) (omega arith) (omega arith)
-  by-rule (is-add e z) = two (addWord (d .width)) (at-add l d y oa ob oc pz j e) (at-add l d x oa ob oc px j e) (ap usesA e) (ap usesB e) (omega arith) (omega arith)
-  by-rule (is-sub e z) = two (subWord (d .width)) (at-sub l d y oa ob oc pz j e) (at-sub l d x oa ob oc px j e) (ap usesA e) (ap usesB e) (omega arith) (omega arith)
-  by-rule (is-mul e z) = two (mulWord (d .width)) (at-mul l d y oa ob oc pz j e) (at-mul l d x oa ob oc px j e) (ap usesA e) (ap usesB e) (omega arith) (omega arith)
-  by-rule (is-divu e z) = two (divWord (d .width)) (at-divu l d y oa ob oc pz j e) (at-divu l d x oa ob oc px j e) (ap usesA e) (ap usesB e) (omega arith) (omega arith)
-  by-rule (is-rem e z) = two remWord (at-rem l d y oa ob oc pz j e) (at-rem l d x oa ob oc px j e) (ap usesA e) (ap usesB e) (omega arith) (omega arith)
-  by-rule (is-or e z) = two bitOr (at-or l d y oa ob oc pz j e) (at-or l d x oa ob oc px j e) (ap usesA e) (ap usesB e) (omega arith) (omega arith)
-  by-rule (is-sll e z) = two (sllWord (d .width)) (at-sll l d y oa ob oc pz j e) (at-sll l d x oa ob oc px j e) (ap usesA e) (ap usesB e) (omega arith) (omega arith)
-  by-rule (is-srl e z) = two (srlWord (d .width)) (at-srl l d y oa ob oc pz j e) (at-srl l d x oa ob oc px j e) (ap usesA e) (ap usesB e) (omega arith) (omega arith)
-  by-rule (is-eq e z) = two (λ u v. bit (eqb u v)) (at-eq l d y oa ob oc pz j e) (at-eq l d x oa ob oc px j e) (ap usesA e) (ap usesB e) (z .word) (omega arith)
-  by-rule (is-ult e z) = two (λ u v. bit (ltb u v)) (at-ult l d y oa ob oc pz j e) (at-ult l d x oa ob oc px j e) (ap usesA e) (ap usesB e) (z .word) (omega arith)
+  by-rule (is-state e (inr z)) = at-state l d va y oa ob oc pz j e ∙ (same (aOf t (i + 1)) (initial d e free) (s .operands .a) z ∙ sym (at-state l d va x oa ob oc px j e))
+  by-rule (is-not e h z) = one (notWord (d .width)) (at-not l d va y oa ob oc pz j e) (at-not l d va x oa ob oc px j e) (ap usesA e) (omega arith)
+  by-rule (is-bad e h z) = one (λ v. v) (at-bad l d va y oa ob oc pz j e) (at-bad l d va x oa ob oc px j e) (ap usesA e) (omega arith)
+  by-rule (is-ext e z) = one (λ v. v) (at-ext l d va y oa ob oc pz j e) (at-ext l d va x oa ob oc px j e) (ap usesA e) (z .word)
+  by-rule (is-sext e z) = one (sextWord va (d .width)) (at-sext l d va y oa ob oc pz j e) (at-sext l d va x oa ob oc px j e) (ap usesA e) (z .word)
+  by-rule (is-and e z) = two bitAnd (at-and l d va y oa ob oc pz j e) (at-and l d va x oa ob oc px j e) (ap usesA e) (ap usesB e) (omega arith) (omega arith)
+  by-rule (is-add e z) = two (addWord (d .width)) (at-add l d va y oa ob oc pz j e) (at-add l d va x oa ob oc px j e) (ap usesA e) (ap usesB e) (omega arith) (omega arith)
+  by-rule (is-sub e z) = two (subWord (d .width)) (at-sub l d va y oa ob oc pz j e) (at-sub l d va x oa ob oc px j e) (ap usesA e) (ap usesB e) (omega arith) (omega arith)
+  by-rule (is-mul e z) = two (mulWord (d .width)) (at-mul l d va y oa ob oc pz j e) (at-mul l d va x oa ob oc px j e) (ap usesA e) (ap usesB e) (omega arith) (omega arith)
+  by-rule (is-divu e z) = two (divWord (d .width)) (at-divu l d va y oa ob oc pz j e) (at-divu l d va x oa ob oc px j e) (ap usesA e) (ap usesB e) (omega arith) (omega arith)
+  by-rule (is-rem e z) = two remWord (at-rem l d va y oa ob oc pz j e) (at-rem l d va x oa ob oc px j e) (ap usesA e) (ap usesB e) (omega arith) (omega arith)
+  by-rule (is-or e z) = two bitOr (at-or l d va y oa ob oc pz j e) (at-or l d va x oa ob oc px j e) (ap usesA e) (ap usesB e) (omega arith) (omega arith)
+  by-rule (is-sll e z) = two (sllWord (d .width)) (at-sll l d va y oa ob oc pz j e) (at-sll l d va x oa ob oc px j e) (ap usesA e) (ap usesB e) (omega arith) (omega arith)
+  by-rule (is-srl e z) = two (srlWord (d .width)) (at-srl l d va y oa ob oc pz j e) (at-srl l d va x oa ob oc px j e) (ap usesA e) (ap usesB e) (omega arith) (omega arith)
+  by-rule (is-eq e z) = two (λ u v. bit (eqb u v)) (at-eq l d va y oa ob oc pz j e) (at-eq l d va x oa ob oc px j e) (ap usesA e) (ap usesB e) (z .word) (omega arith)
+  by-rule (is-ult e z) = two (λ u v. bit (ltb u v)) (at-ult l d va y oa ob oc pz j e) (at-ult l d va x oa ob oc px j e) (ap usesA e) (ap usesB e) (z .word) (omega arith)
   by-rule (is-ite e p q r) =
-      at-ite l d y oa ob oc pz j e
+      at-ite l d va y oa ob oc pz j e
       ∙ (ite-alike
       (word (aOf t (i + 1)) (s .operands .a-used (ap usesA e)) (s .operands .a) (omega arith))
       (same (bOf t (i + 1)) (s .operands .b-used (ap usesB e)) (s .operands .b) q)
       (same (cOf t (i + 1)) (s .operands .c-used (ap usesC e)) (s .operands .c) r)
-      ∙ sym (at-ite l d x oa ob oc px j e))
+      ∙ sym (at-ite l d va x oa ob oc px j e))
   by-rule (is-read e h p q) =
-      at-read l d y oa ob oc pz j e
+      at-read l d va y oa ob oc pz j e
       ∙ (ap (readValue l y oa) (place-alike (ap accesses e) (ap usesB e) (omega arith))
       ∙ (read-alike px (λ m. memory (aOf t (i + 1)) m (s .operands .a-used (ap usesA e)) (s .operands .a) p)
-      ∙ sym (at-read l d x oa ob oc px j e)))
+      ∙ sym (at-read l d va x oa ob oc px j e)))
   by-rule (is-write e h p q r) =
-      at-write l d y oa ob oc pz j e
+      at-write l d va y oa ob oc pz j e
       ∙ (ap (λ k. writeValue y oa k (getD y oc 0) j) (place-alike (ap accesses e) (ap usesB e) (omega arith))
       ∙ (write-alike px
       (word (cOf t (i + 1)) (s .operands .c-used (ap usesC e)) (s .operands .c) (omega arith))
       (same (aOf t (i + 1)) (s .operands .a-used (ap usesA e)) (s .operands .a) (p ∙ sym h))
-      ∙ sym (at-write l d x oa ob oc px j e)))
+      ∙ sym (at-write l d va x oa ob oc px j e)))
 
-  local : slotAt l d y oa ob oc pz j ≡ slotAt l d x oa ob oc px j
+  local : slotAt l d va y oa ob oc pz j ≡ slotAt l d va x oa ob oc px j
   unfolding Local
   local = by-rule (s .sort)
 

@@ -17,14 +17,14 @@ use Rattle.loops.proofs.Loop.{by-pick, first-below}
 use Rattle.table.specs.declared.Fault.the-variants.{Clear}
 use Rattle.table.specs.declared.Node.{Node}
 use Rattle.table.specs.Kind.{usesA, usesB, usesC}
-use Rattle.table.specs.Node.{nodes, nodeAt, widthOf, aOf, bOf, cOf, Narrow}
+use Rattle.table.specs.Node.{nodes, nodeAt, widthOf, aOf, bOf, cOf}
 use Rattle.table.specs.Sheet.{tableFault}
-use Rattle.table.proofs.Whole.{Sound, Rule, is-const, is-input, is-state, is-not, is-bad, is-and, is-ext, is-eq, is-add, is-ite, is-sub, is-ult, is-mul, is-divu, is-rem, is-read, is-write, is-or, is-sll, is-srl, within, fine, each-sound}
+use Rattle.table.proofs.Whole.{Sound, Rule, Extended, is-const, is-input, is-state, is-not, is-bad, is-and, is-ext, is-eq, is-add, is-ite, is-sub, is-ult, is-mul, is-divu, is-rem, is-read, is-write, is-or, is-sll, is-srl, is-sext, within, each-sound}
 use Rattle.values.specs.declared.Answer.the-variants.{Done}
-use Rattle.values.specs.Value.{notWord, addWord, subWord, mulWord, divWord, remWord, sllWord, srlWord, readValue, writeValue, iteValue, placeAt, slotAt}
+use Rattle.values.specs.Value.{notWord, addWord, subWord, mulWord, divWord, remWord, sllWord, srlWord, sextWord, readValue, writeValue, iteValue, placeAt, slotAt}
 use Rattle.values.specs.Eval.{slots, offset, nodeGiven, slotWidth, slotBad, inputBad, evalWords}
 use Rattle.values.specs.Frame.{InRange, Made}
-use Rattle.values.proofs.ByKind.{at-const, at-state, at-not, at-bad, at-and, at-ext, at-eq, at-add, at-ite, at-sub, at-ult, at-mul, at-divu, at-rem, at-read, at-write, at-or, at-sll, at-srl}
+use Rattle.values.proofs.ByKind.{at-const, at-state, at-not, at-bad, at-and, at-ext, at-eq, at-add, at-ite, at-sub, at-ult, at-mul, at-divu, at-rem, at-read, at-write, at-or, at-sll, at-srl, at-sext}
 use Rattle.values.proofs.Seen.{width-word, width-memory, no-input, initial, memory-own, see-word, see-memory, see-same}
 use Rattle.values.proofs.Kept.{finished}
 use Rattle.values.proofs.Local.{done-right}
@@ -66,10 +66,18 @@ srl-range : (v x y : ℕ) → x < 2 ^ v → srlWord v x y < 2 ^ v
 unfolding srlWord
 srl-range v x y h = by-pick (λ z. z < 2 ^ v) (ltb y v) (x / 2 ^ y) 0 (λ e. lt-of-le-of-lt (div-le-self x (2 ^ y)) h) (λ e. pow-pos v)
 
-module _ (t l : List ℕ) (w i : ℕ) (x : List ℕ) (j : ℕ) (pos : 1 ≤ w) (narrow : Narrow t) (s : Sound t w (i + 1)) (free : nodeGiven t i ≡ false) (inside : j < slots t l i)
+sext-range : (v w x : ℕ) → x < 2 ^ w → sextWord v w x < 2 ^ w
+unfolding sextWord
+sext-range v w x h = by-pick (λ z. z < 2 ^ w) (ltb x (2 ^ (v - 1))) x ((x + (2 ^ w - 2 ^ v)) % 2 ^ w) (λ e. h) (λ e. mod-lt (x + (2 ^ w - 2 ^ v)) (pow-pos w))
+
+module _ (t l : List ℕ) (w i : ℕ) (x : List ℕ) (j : ℕ) (pos : 1 ≤ w) (s : Sound t w (i + 1)) (free : nodeGiven t i ≡ false) (inside : j < slots t l i)
     (all : (p m : ℕ) → 1 ≤ p → p < i + 1 → m < slots t l (p - 1) → getD x (offset t l p + m) 0 < 2 ^ slotWidth w (nodeAt t p)) where
   abbrev d : Node
   d = nodeAt t (i + 1)
+
+  -- the first operand's width
+  abbrev va : ℕ
+  va = widthOf t (aOf t (i + 1))
 
   abbrev oa : ℕ
   oa = offset t l (aOf t (i + 1))
@@ -102,11 +110,15 @@ module _ (t l : List ℕ) (w i : ℕ) (x : List ℕ) (j : ℕ) (pos : 1 ≤ w) (
   right : usesB (d .kind) ≡ true → 1 ≤ d .width → widthOf t (bOf t (i + 1)) ≡ d .width → getD x ob 0 < 2 ^ d .width
   right u h z = rw z at (word (bOf t (i + 1)) (s .operands .b-used u) (s .operands .b) (omega arith))
 
+  -- the operand of an extension
+  under : usesA (d .kind) ≡ true → Extended (d .width) va → getD x oa 0 < 2 ^ d .width
+  under u z = lt-of-lt-of-le (word (aOf t (i + 1)) (s .operands .a-used u) (s .operands .a) (z .word)) (pow-mono (z .wide))
+
   Good : Type 0
-  Good = slotAt l d x oa ob oc px j < 2 ^ slotWidth w d
+  Good = slotAt l d va x oa ob oc px j < 2 ^ slotWidth w d
 
   -- a word by its value
-  as-word : (v : ℕ) → slotAt l d x oa ob oc px j ≡ v → 1 ≤ d .width → v < 2 ^ d .width → Good
+  as-word : (v : ℕ) → slotAt l d va x oa ob oc px j ≡ v → 1 ≤ d .width → v < 2 ^ d .width → Good
   unfolding Good
   as-word v e h k = rw (e, width-word w d h) k
 
@@ -124,45 +136,44 @@ module _ (t l : List ℕ) (w i : ℕ) (x : List ℕ) (j : ℕ) (pos : 1 ≤ w) (
 
   by-rule : Rule w d (widthOf t (aOf t (i + 1))) (widthOf t (bOf t (i + 1))) (widthOf t (cOf t (i + 1))) → Good
   unfolding Good
-  by-rule (is-const e h m) = as-word (d .imm) (at-const l d x oa ob oc px j e) h m
+  by-rule (is-const e h m) = as-word (d .imm) (at-const l d va x oa ob oc px j e) h m
   by-rule (is-input e) = absurd (no-input d e free)
   by-rule (is-state e (inl z)) = absurd (omega (arith, initial d e free))
-  by-rule (is-state e (inr z)) = rw (at-state l d x oa ob oc px j e) (same (aOf t (i + 1)) (initial d e free) (s .operands .a) z)
-  by-rule (is-not e h z) = as-word _ (at-not l d x oa ob oc px j e) h (not-range (d .width) (getD x oa 0))
-  by-rule (is-bad e h z) = as-word _ (at-bad l d x oa ob oc px j e) (omega arith) (left (ap usesA e) (omega arith) (z ∙ sym h))
-  by-rule (is-ext e h z) =
-      as-word _ (at-ext l d x oa ob oc px j e) (omega arith)
-      (lt-of-lt-of-le (word (aOf t (i + 1)) (s .operands .a-used (ap usesA e)) (s .operands .a) z) (pow-mono (omega (arith, narrow (aOf t (i + 1))))))
+  by-rule (is-state e (inr z)) = rw (at-state l d va x oa ob oc px j e) (same (aOf t (i + 1)) (initial d e free) (s .operands .a) z)
+  by-rule (is-not e h z) = as-word _ (at-not l d va x oa ob oc px j e) h (not-range (d .width) (getD x oa 0))
+  by-rule (is-bad e h z) = as-word _ (at-bad l d va x oa ob oc px j e) (omega arith) (left (ap usesA e) (omega arith) (z ∙ sym h))
+  by-rule (is-ext e z) = as-word _ (at-ext l d va x oa ob oc px j e) (omega arith) (under (ap usesA e) z)
+  by-rule (is-sext e z) = as-word _ (at-sext l d va x oa ob oc px j e) (omega arith) (sext-range va (d .width) (getD x oa 0) (under (ap usesA e) z))
   by-rule (is-and e z) =
-      as-word _ (at-and l d x oa ob oc px j e) (z .word)
+      as-word _ (at-and l d va x oa ob oc px j e) (z .word)
       (lt-of-le-of-lt (and-le-l (getD x oa 0) (getD x ob 0)) (left (ap usesA e) (z .word) (z .left)))
-  by-rule (is-add e z) = as-word _ (at-add l d x oa ob oc px j e) (z .word) (add-range (d .width) (getD x oa 0) (getD x ob 0))
-  by-rule (is-sub e z) = as-word _ (at-sub l d x oa ob oc px j e) (z .word) (sub-range (d .width) (getD x oa 0) (getD x ob 0))
-  by-rule (is-mul e z) = as-word _ (at-mul l d x oa ob oc px j e) (z .word) (mul-range (d .width) (getD x oa 0) (getD x ob 0))
-  by-rule (is-divu e z) = as-word _ (at-divu l d x oa ob oc px j e) (z .word) (div-range (d .width) (getD x oa 0) (getD x ob 0) (left (ap usesA e) (z .word) (z .left)))
-  by-rule (is-rem e z) = as-word _ (at-rem l d x oa ob oc px j e) (z .word) (rem-range (d .width) (getD x oa 0) (getD x ob 0) (left (ap usesA e) (z .word) (z .left)))
+  by-rule (is-add e z) = as-word _ (at-add l d va x oa ob oc px j e) (z .word) (add-range (d .width) (getD x oa 0) (getD x ob 0))
+  by-rule (is-sub e z) = as-word _ (at-sub l d va x oa ob oc px j e) (z .word) (sub-range (d .width) (getD x oa 0) (getD x ob 0))
+  by-rule (is-mul e z) = as-word _ (at-mul l d va x oa ob oc px j e) (z .word) (mul-range (d .width) (getD x oa 0) (getD x ob 0))
+  by-rule (is-divu e z) = as-word _ (at-divu l d va x oa ob oc px j e) (z .word) (div-range (d .width) (getD x oa 0) (getD x ob 0) (left (ap usesA e) (z .word) (z .left)))
+  by-rule (is-rem e z) = as-word _ (at-rem l d va x oa ob oc px j e) (z .word) (rem-range (d .width) (getD x oa 0) (getD x ob 0) (left (ap usesA e) (z .word) (z .left)))
   by-rule (is-or e z) =
-      as-word _ (at-or l d x oa ob oc px j e) (z .word)
+      as-word _ (at-or l d va x oa ob oc px j e) (z .word)
       (or-lt (d .width) (getD x oa 0) (getD x ob 0) (left (ap usesA e) (z .word) (z .left)) (right (ap usesB e) (z .word) (z .right)))
-  by-rule (is-sll e z) = as-word _ (at-sll l d x oa ob oc px j e) (z .word) (sll-range (d .width) (getD x oa 0) (getD x ob 0))
-  by-rule (is-srl e z) = as-word _ (at-srl l d x oa ob oc px j e) (z .word) (srl-range (d .width) (getD x oa 0) (getD x ob 0) (left (ap usesA e) (z .word) (z .left)))
-  by-rule (is-eq e z) = as-word _ (at-eq l d x oa ob oc px j e) (omega arith) (bit-range (d .width) (eqb (getD x oa 0) (getD x ob 0)) (omega arith))
-  by-rule (is-ult e z) = as-word _ (at-ult l d x oa ob oc px j e) (omega arith) (bit-range (d .width) (ltb (getD x oa 0) (getD x ob 0)) (omega arith))
+  by-rule (is-sll e z) = as-word _ (at-sll l d va x oa ob oc px j e) (z .word) (sll-range (d .width) (getD x oa 0) (getD x ob 0))
+  by-rule (is-srl e z) = as-word _ (at-srl l d va x oa ob oc px j e) (z .word) (srl-range (d .width) (getD x oa 0) (getD x ob 0) (left (ap usesA e) (z .word) (z .left)))
+  by-rule (is-eq e z) = as-word _ (at-eq l d va x oa ob oc px j e) (omega arith) (bit-range (d .width) (eqb (getD x oa 0) (getD x ob 0)) (omega arith))
+  by-rule (is-ult e z) = as-word _ (at-ult l d va x oa ob oc px j e) (omega arith) (bit-range (d .width) (ltb (getD x oa 0) (getD x ob 0)) (omega arith))
   by-rule (is-ite e p q r) =
-      rw (at-ite l d x oa ob oc px j e)
+      rw (at-ite l d va x oa ob oc px j e)
       (ite-range (2 ^ slotWidth w d)
       (same (bOf t (i + 1)) (s .operands .b-used (ap usesB e)) (s .operands .b) q)
       (same (cOf t (i + 1)) (s .operands .c-used (ap usesC e)) (s .operands .c) r))
   by-rule (is-read e h p q) =
-      as-word _ (at-read l d x oa ob oc px j e) (omega arith)
+      as-word _ (at-read l d va x oa ob oc px j e) (omega arith)
       (lt-of-lt-of-le (read-range px (λ m. memory (aOf t (i + 1)) m (s .operands .a-used (ap usesA e)) (s .operands .a) p)) (pow-mono (omega arith)))
   by-rule (is-write e h p q r) =
-      rw (at-write l d x oa ob oc px j e, width-memory w d h)
+      rw (at-write l d va x oa ob oc px j e, width-memory w d h)
       (write-range px (getD x oc 0)
       (rw r at (word (cOf t (i + 1)) (s .operands .c-used (ap usesC e)) (s .operands .c) (omega arith)))
       (memory (aOf t (i + 1)) j (s .operands .a-used (ap usesA e)) (s .operands .a) p (omega (arith, memory-own t l i h))))
 
-  slot-range : slotAt l d x oa ob oc px j < 2 ^ slotWidth w d
+  slot-range : slotAt l d va x oa ob oc px j < 2 ^ slotWidth w d
   unfolding Good
   slot-range = by-rule (s .sort)
 
@@ -189,7 +200,7 @@ module _ (t l : List ℕ) (w : ℕ) (v : List ℕ) (e : evalWords t l w v .answe
 
   next : (n : ℕ) → n < nodes t → Below-all n → (j : ℕ) → j < slots t l n → (b : Bool) → nodeGiven t n ≡ b → getD x (offset t l (n + 1) + j) 0 < 2 ^ slotWidth w (nodeAt t (n + 1))
   next n h ih j k true g = given-range n j h k g
-  next n h ih j k false g = rw (made n j h k g) (slot-range t l w n x j (within t l w clear .3) (fine t l w clear .narrow) (each-sound t l w clear n h) g k all)
+  next n h ih j k false g = rw (made n j h k g) (slot-range t l w n x j (within t l w clear .3) (each-sound t l w clear n h) g k all)
     where
       clear : tableFault t l w ≡ Clear
       clear = finished t l w v e .clear

@@ -7,7 +7,7 @@ use lib.ListN.{getD, set, length}
 use Rattle.loops.specs.Loop.{pick, first, iter}
 use Rattle.table.specs.declared.Node.{Node}
 use Rattle.table.specs.declared.Unit.the-variants.{Slot}
-use Rattle.table.specs.Node.{aOf, bOf, cOf, nodeAt, nodes, given, Fine}
+use Rattle.table.specs.Node.{widthOf, aOf, bOf, cOf, nodeAt, nodes, given, Fine}
 use Rattle.table.specs.Sheet as sheet
 use Rattle.table.specs.Sheet.{tableFault, isClear}
 use Rattle.table.specs.Size.{nodeSize, offsetOf, sizeSum, Offsets}
@@ -57,16 +57,16 @@ slotBad u vals o j = not (ltb (getD vals (o + j) 0) (2 ^ u))
 unfoldable pub inputBad : List ℕ → List ℕ → ℕ → List ℕ → ℕ → Bool
 inputBad t l w vals i = nodeGiven t i && ltb (first (slots t l i) (slotBad (slotWidth w (nodeAt t (i + 1))) vals (offset t l (i + 1)))) (slots t l i)
 
--- a node d is worked out slot by slot, from o on; its operands' slots begin at a, b and c, and its address stands at place p
-unfoldable pub slotStep : List ℕ → Node → ℕ → ℕ → ℕ → ℕ → ℕ → ℕ → List ℕ → List ℕ
-slotStep l d o a b c p j vals = set vals (o + j) (slotAt l d vals a b c p j)
+-- a node d is worked out slot by slot, from o on; its operands' slots begin at a, b and c, the first is v wide, and its address stands at place p
+unfoldable pub slotStep : List ℕ → Node → ℕ → ℕ → ℕ → ℕ → ℕ → ℕ → ℕ → List ℕ → List ℕ
+slotStep l d v o a b c p j vals = set vals (o + j) (slotAt l d v vals a b c p j)
 
 -- node i + 1
 unfoldable pub nodeStep : List ℕ → List ℕ → ℕ → List ℕ → List ℕ
 nodeStep t l i vals =
     pick (nodeGiven t i) vals
     (iter (slots t l i)
-    (slotStep l (nodeAt t (i + 1)) (offset t l (i + 1)) (offset t l (aOf t (i + 1))) (offset t l (bOf t (i + 1))) (offset t l (cOf t (i + 1)))
+    (slotStep l (nodeAt t (i + 1)) (widthOf t (aOf t (i + 1))) (offset t l (i + 1)) (offset t l (aOf t (i + 1))) (offset t l (bOf t (i + 1))) (offset t l (cOf t (i + 1)))
     (placeAt l (nodeAt t (i + 1)) vals (offset t l (bOf t (i + 1)))))
     vals)
 

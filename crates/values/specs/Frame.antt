@@ -4,7 +4,7 @@ use mathlib.Core.List.{List}
 use mathlib.Core.Bool.{true, false}
 use Prim.Native.Nat.{ℕ, _+_, _^_, _≤_, _<_}
 use lib.ListN.{getD, length}
-use Rattle.table.specs.Node.{nodes, nodeAt, aOf, bOf, cOf}
+use Rattle.table.specs.Node.{nodes, nodeAt, widthOf, aOf, bOf, cOf}
 use Rattle.values.specs.Value.{slotValue}
 use Rattle.values.specs.Eval.{slots, offset, total, nodeGiven, slotWidth}
 
@@ -19,7 +19,7 @@ pub record Kept (t l v x : List ℕ) : Type 0 where
 abbrev pub Made : List ℕ → List ℕ → List ℕ → List ℕ → ℕ → ℕ → Type 0
 Made t l x y i j =
     getD x (offset t l (i + 1) + j) 0
-    ≡ slotValue l (nodeAt t (i + 1)) y (offset t l (aOf t (i + 1))) (offset t l (bOf t (i + 1))) (offset t l (cOf t (i + 1))) j
+    ≡ slotValue l (nodeAt t (i + 1)) (widthOf t (aOf t (i + 1))) y (offset t l (aOf t (i + 1))) (offset t l (bOf t (i + 1))) (offset t l (cOf t (i + 1))) j
 
 -- x is worked out: each such slot is made of x itself
 pub record Valued (t l v x : List ℕ) : Type 0 where

@@ -6,7 +6,7 @@ use lib.Dec.{eqb, ltb}
 use lib.ListN.{getD, length}
 use Rattle.loops.specs.Loop.{pick, first, bit}
 use Rattle.table.specs.declared.Node.{Node}
-use Rattle.table.specs.Kind.{CONST, STATE, NOT, AND, EQ, ADD, ITE, SUB, ULT, MUL, DIVU, REM, READ, WRITE, OR, SLL, SRL, accesses}
+use Rattle.table.specs.Kind.{CONST, STATE, NOT, AND, EQ, ADD, ITE, SUB, ULT, MUL, DIVU, REM, READ, WRITE, OR, SLL, SRL, SEXT, accesses}
 use Rattle.table.specs.Sheet.{isAt}
 
 -- modulo 2^v
@@ -36,9 +36,13 @@ sllWord v x y = pick (ltb y v) (x * 2 ^ y % 2 ^ v) 0
 unfoldable pub srlWord : ℕ → ℕ → ℕ → ℕ
 srlWord v x y = pick (ltb y v) (x / 2 ^ y) 0
 
--- a word, over the values x of its first and y of its second operand; bad and ext have their operand's
-unfoldable pub wordValue : Node → ℕ → ℕ → ℕ
-wordValue d x y =
+-- a signed extension from v to w bits: the upper bits are copies of the top bit
+unfoldable pub sextWord : ℕ → ℕ → ℕ → ℕ
+sextWord v w x = pick (ltb x (2 ^ (v - 1))) x ((x + (2 ^ w - 2 ^ v)) % 2 ^ w)
+
+-- a word, over the values x of its first operand, which is v wide, and y of its second; bad and ext have their operand's
+unfoldable pub wordValue : Node → ℕ → ℕ → ℕ → ℕ
+wordValue d v x y =
     pick (eqb (d .kind) CONST) (d .imm)
     (pick (eqb (d .kind) NOT) (notWord (d .width) x)
     (pick (eqb (d .kind) AND) (bitAnd x y)
@@ -52,7 +56,8 @@ wordValue d x y =
     (pick (eqb (d .kind) OR) (bitOr x y)
     (pick (eqb (d .kind) SLL) (sllWord (d .width) x y)
     (pick (eqb (d .kind) SRL) (srlWord (d .width) x y)
-    x))))))))))))
+    (pick (eqb (d .kind) SEXT) (sextWord v (d .width) x)
+    x)))))))))))))
 
 -- the place of an address among the listed ones; their number where it is not listed
 abbrev pub listed : List ℕ → ℕ → ℕ
@@ -74,14 +79,15 @@ iteValue vals a b c j = pick (eqb (getD vals a 0) 1) (getD vals (b + j) 0) (getD
 unfoldable pub placeAt : List ℕ → Node → List ℕ → ℕ → ℕ
 placeAt l d vals b = pick (accesses (d .kind)) (listed l (getD vals b 0)) 0
 
--- slot j of a node, over operands whose slots begin at a, b and c, with its address at place p: a word has slot 0 alone, a memory one for each listed address
-unfoldable pub slotAt : List ℕ → Node → List ℕ → ℕ → ℕ → ℕ → ℕ → ℕ → ℕ
-slotAt l d vals a b c p j =
+-- slot j of a node, over operands whose slots begin at a, b and c, of which the first is v wide, with its address at place p: a word has slot 0 alone, a memory
+-- one for each listed address
+unfoldable pub slotAt : List ℕ → Node → ℕ → List ℕ → ℕ → ℕ → ℕ → ℕ → ℕ → ℕ
+slotAt l d v vals a b c p j =
     pick (eqb (d .kind) STATE) (getD vals (a + j) 0)
     (pick (eqb (d .kind) ITE) (iteValue vals a b c j)
     (pick (eqb (d .kind) READ) (readValue l vals a p)
     (pick (eqb (d .kind) WRITE) (writeValue vals a p (getD vals c 0) j)
-    (wordValue d (getD vals a 0) (getD vals b 0)))))
+    (wordValue d v (getD vals a 0) (getD vals b 0)))))
 
-abbrev pub slotValue : List ℕ → Node → List ℕ → ℕ → ℕ → ℕ → ℕ → ℕ
-slotValue l d vals a b c j = slotAt l d vals a b c (placeAt l d vals b) j
+abbrev pub slotValue : List ℕ → Node → ℕ → List ℕ → ℕ → ℕ → ℕ → ℕ → ℕ
+slotValue l d v vals a b c j = slotAt l d v vals a b c (placeAt l d vals b) j

@@ -14,6 +14,7 @@ use table::Node;
 use table::Unit;
 use table::field::is_given;
 use table::field::node_at;
+use table::field::width_at;
 
 // An answer's number on the refusal sheet; 0 is no refusal.
 pub fn number(a: Answer) -> u64
@@ -43,6 +44,7 @@ pub fn node(a: Answer) -> usize
 fn slot_step(
     addrs: &[u64],
     node: Node,
+    v: u64,
     o: usize,
     a: usize,
     b: usize,
@@ -51,11 +53,11 @@ fn slot_step(
     j: usize,
     values: &mut [u64],
 )
-    requires { ⌜ (length (now addrs) ≤ 64) × (node .width ≤ 64) × (a ≤ 65536) × (b ≤ 65536) × (c ≤ 65536) × (j ≤ 64) ⌝ }
+    requires { ⌜ (length (now addrs) ≤ 64) × (node .width ≤ 64) × (v ≤ 64) × (a ≤ 65536) × (b ≤ 65536) × (c ≤ 65536) × (j ≤ 64) ⌝ }
     requires { ⌜ (o ≤ 65536) × (o + j < length (now values)) ⌝ }
-    ensures { λ _. ⌜ now (values .exit) ≡ slotStep (now (addrs .entry)) node o a b c p j (now (values .entry)) ⌝ }
+    ensures { λ _. ⌜ now (values .exit) ≡ slotStep (now (addrs .entry)) node v o a b c p j (now (values .entry)) ⌝ }
 {
-    let x = slot_at(addrs, node, values, a, b, c, p, j);
+    let x = slot_at(addrs, node, v, values, a, b, c, p, j);
     values[o + j] = x;
 }
 
@@ -63,6 +65,7 @@ fn slot_step(
 fn fill(
     addrs: &[u64],
     node: Node,
+    v: u64,
     o: usize,
     a: usize,
     b: usize,
@@ -71,13 +74,13 @@ fn fill(
     m: usize,
     values: &mut [u64],
 )
-    requires { ⌜ (length (now addrs) ≤ 64) × (node .width ≤ 64) × (a ≤ 65536) × (b ≤ 65536) × (c ≤ 65536) × (m ≤ 64) ⌝ }
+    requires { ⌜ (length (now addrs) ≤ 64) × (node .width ≤ 64) × (v ≤ 64) × (a ≤ 65536) × (b ≤ 65536) × (c ≤ 65536) × (m ≤ 64) ⌝ }
     requires { ⌜ (o ≤ 65536) × (o + m ≤ length (now values)) ⌝ }
-    ensures { λ _. ⌜ now (values .exit) ≡ iter m (slotStep (now (addrs .entry)) node o a b c p) (now (values .entry)) ⌝ }
+    ensures { λ _. ⌜ now (values .exit) ≡ iter m (slotStep (now (addrs .entry)) node v o a b c p) (now (values .entry)) ⌝ }
 {
     let mut j = 0;
     while j < m {
-        slot_step(addrs, node, o, a, b, c, p, j, values);
+        slot_step(addrs, node, v, o, a, b, c, p, j, values);
         j += 1;
     }
 }
@@ -101,7 +104,8 @@ fn eval_node(table: &[u64], addrs: &[u64], offsets: &[usize], i: usize, values: 
     let c = offsets[nc];
     let m = slots_of(addrs, node);
     let p = place_at(addrs, node, values, b);
-    fill(addrs, node, o, a, b, c, p, m, values);
+    let v = width_at(table, node.a);
+    fill(addrs, node, v, o, a, b, c, p, m, values);
 }
 
 // All nodes upwards.

@@ -75,10 +75,11 @@ fn ite_value(values: &[u64], a: usize, b: usize, c: usize, j: usize) -> u64
     at(values, c + j)
 }
 
-// Slot j of a node, over operands whose slots begin at a, b and c, with its address at place p.
+// Slot j of a node, over operands whose slots begin at a, b and c, of which the first is v wide, with its address at place p.
 pub fn slot_at(
     addrs: &[u64],
     node: Node,
+    v: u64,
     values: &[u64],
     a: usize,
     b: usize,
@@ -86,8 +87,8 @@ pub fn slot_at(
     p: usize,
     j: usize,
 ) -> u64
-    requires { ⌜ (length (now addrs) ≤ 64) × (node .width ≤ 64) × (a ≤ 65536) × (b ≤ 65536) × (c ≤ 65536) × (j ≤ 64) ⌝ }
-    ensures { λ r. ⌜ r ≡ slotAt (now (addrs .entry)) node (now (values .entry)) a b c p j ⌝ }
+    requires { ⌜ (length (now addrs) ≤ 64) × (node .width ≤ 64) × (v ≤ 64) × (a ≤ 65536) × (b ≤ 65536) × (c ≤ 65536) × (j ≤ 64) ⌝ }
+    ensures { λ r. ⌜ r ≡ slotAt (now (addrs .entry)) node v (now (values .entry)) a b c p j ⌝ }
 {
     let k = node.kind;
     if k == STATE {
@@ -102,5 +103,5 @@ pub fn slot_at(
     if k == WRITE {
         return write_value(values, a, p, at(values, c), j);
     }
-    word_value(node, at(values, a), at(values, b))
+    word_value(node, v, at(values, a), at(values, b))
 }

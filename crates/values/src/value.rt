@@ -1,6 +1,6 @@
 ghost use mathlib.Core.Path.{_≡_};
 ghost use Prim.Native.Nat.{_-_, _*_, _%_, _^_, _≤_};
-ghost use Rattle.values.specs.Value.{notWord, addWord, subWord, mulWord, divWord, remWord, sllWord, srlWord, wordValue};
+ghost use Rattle.values.specs.Value.{notWord, addWord, subWord, mulWord, divWord, remWord, sllWord, srlWord, sextWord, wordValue};
 use table::Node;
 use table::kind::ADD;
 use table::kind::AND;
@@ -11,6 +11,7 @@ use table::kind::MUL;
 use table::kind::NOT;
 use table::kind::OR;
 use table::kind::REM;
+use table::kind::SEXT;
 use table::kind::SLL;
 use table::kind::SRL;
 use table::kind::SUB;
@@ -117,18 +118,30 @@ fn srl_word(v: u64, x: u64, y: u64) -> u64
     0
 }
 
-// A word node's value, over the values x and y of its operands.
-pub fn word_value(node: Node, x: u64, y: u64) -> u64
-    requires { ⌜ node .width ≤ 64 ⌝ }
-    ensures { λ r. ⌜ r ≡ wordValue node x y ⌝ }
+// A signed extension from v to w bits: with the top bit set, x less 2^v. For v = 64 the 2^v wraps to 0, which is the same modulo 2^w.
+fn sext_word(v: u64, w: u64, x: u64) -> u64
+    requires { ⌜ (v ≤ 64) × (w ≤ 64) ⌝ }
+    ensures { λ r. ⌜ r ≡ sextWord v w x ⌝ }
+{
+    let low = mask(v);
+    if low / 2 < x {
+        return sub_word(w, x, std::num::wrapping_add_u64(low, 1));
+    }
+    x
+}
+
+// A word node's value, over the values x of its first operand, which is v wide, and y of its second.
+pub fn word_value(node: Node, v: u64, x: u64, y: u64) -> u64
+    requires { ⌜ (node .width ≤ 64) × (v ≤ 64) ⌝ }
+    ensures { λ r. ⌜ r ≡ wordValue node v x y ⌝ }
 {
     let k = node.kind;
-    let v = node.width;
+    let w = node.width;
     if k == CONST {
         return node.imm;
     }
     if k == NOT {
-        return not_word(v, x);
+        return not_word(w, x);
     }
     if k == AND {
         return x & y;
@@ -137,19 +150,19 @@ pub fn word_value(node: Node, x: u64, y: u64) -> u64
         return (x == y) as u64;
     }
     if k == ADD {
-        return add_word(v, x, y);
+        return add_word(w, x, y);
     }
     if k == SUB {
-        return sub_word(v, x, y);
+        return sub_word(w, x, y);
     }
     if k == ULT {
         return (x < y) as u64;
     }
     if k == MUL {
-        return mul_word(v, x, y);
+        return mul_word(w, x, y);
     }
     if k == DIVU {
-        return div_word(v, x, y);
+        return div_word(w, x, y);
     }
     if k == REM {
         return rem_word(x, y);
@@ -158,10 +171,13 @@ pub fn word_value(node: Node, x: u64, y: u64) -> u64
         return x | y;
     }
     if k == SLL {
-        return sll_word(v, x, y);
+        return sll_word(w, x, y);
     }
     if k == SRL {
-        return srl_word(v, x, y);
+        return srl_word(w, x, y);
+    }
+    if k == SEXT {
+        return sext_word(v, w, x);
     }
     x
 }

@@ -2,6 +2,7 @@ pub mod Sums
 pub mod NumLaws
 pub mod EachLaws
 pub mod AddLaws
+pub mod ExtendLaws
 pub mod SubLaws
 pub mod JoinLaws
 pub mod EqLaws

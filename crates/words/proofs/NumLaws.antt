@@ -13,7 +13,7 @@ use Rattle.netlist.specs.Net.{Net, Assign, Obeys}
 use Rattle.gates.proofs.Laws.{bit-known}
 use Rattle.digits.specs.Digits.{digit, number, Below, knownBits, knownNumber}
 use Rattle.digits.proofs.Numbers.{number-lt, number-same, number-digits, number-digit}
-use Rattle.words.specs.Num.{num, blank}
+use Rattle.words.specs.Num.{num, filled, blank}
 
 pub num-lt : (e : Assign) (bs : List ℕ) (w : ℕ) → num e bs w < 2 ^ w
 num-lt e bs w = number-lt (λ i. e (getD bs i 0)) w
@@ -72,10 +72,13 @@ unfolding pick
 num-choose e true out t f w h = number-same (λ i. e (getD out i 0)) (λ i. e (getD t i 0)) w h
 num-choose e false out t f w h = number-same (λ i. e (getD out i 0)) (λ i. e (getD f i 0)) w h
 
--- scratch before it is written: known false
+-- scratch; before it is written it is known false
+pub filled-long : (b : ℕ) → length (filled b) ≡ 65
+unfolding filled
+filled-long b = length-replicate {A = ℕ} 65 b
+
 pub blank-long : length blank ≡ 65
-unfolding blank
-blank-long = length-replicate {A = ℕ} 65 0
+blank-long = filled-long 0
 
 zeros-at : (n j : ℕ) → _≡_ {A = ℕ} (getD (replicate n 0) j 0) 0
 unfolding getD replicate
@@ -84,5 +87,5 @@ zeros-at (suc n) zero = refl
 zeros-at (suc n) (suc j) = zeros-at n j
 
 pub blank-at : (j : ℕ) → getD blank j 0 ≡ 0
-unfolding blank
+unfolding filled
 blank-at j = zeros-at 65 j

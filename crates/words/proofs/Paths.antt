@@ -21,7 +21,8 @@ use Rattle.words.specs.declared.shift.Direction.the-variants.{Left, Righ
 use Rattle.words.specs.Num.{blank}
 use Rattle.words.specs.Each.{bitwise, bitCost, Word, wordOf, placed, eachStep, eachBit, eachCost, copyStep, putBits}
 use Rattle.words.specs.Add.{Chain, chainOf, addStep, addOnto, chainCost, addCost, addWords}
-use Rattle.words.specs.Sub.{subWords, subCost, widened, ultWords}
+use Rattle.words.specs.Sub.{subWords, subCost, ultWords}
+use Rattle.words.specs.Extend.{extended}
 use Rattle.words.specs.Join.{Joins, joinStep, joinAll}
 use Rattle.words.specs.Eq.{eqWords, eqCost}
 use Rattle.words.specs.Mul.{rowOf, mulStep, mulWords, mulCost}
@@ -29,7 +30,8 @@ use Rattle.words.specs.Shift.{moved, stage, shiftWords, shiftCost}
 use Rattle.words.proofs.Sums.{sum-within}
 use Rattle.words.proofs.EachLaws.{each-ext, each-long, each-rest, put-law}
 use Rattle.words.proofs.AddLaws.{onto-law, copied-cost, chain-three}
-use Rattle.words.proofs.SubLaws.{nots-less, wide-cost, wide-long}
+use Rattle.words.proofs.SubLaws.{nots-less, wide-cost}
+use Rattle.words.proofs.ExtendLaws.{extend-law}
 use Rattle.words.proofs.JoinLaws.{joins-ext}
 use Rattle.words.proofs.MulLaws.{row-cost, rows-room}
 use Rattle.words.proofs.ShiftLaws.{clear-cost, stages-most}
@@ -181,7 +183,7 @@ pub ult-path : (left right g g₁ wl wr d : List ℕ) (n n₁ : At) (w c₁ : �
 unfolding ultWords
 ult-path left right g g₁ wl wr d n n₁ w c₁ p q e =
     ap {B = MadeBit} (λ (c : Chain). kept (c .net) (getD (c .out) w 0)) (e ∙ (ap (λ (l : List ℕ). subWords (w + 1) l wr (netOf g n) blank) p
-    ∙ ap (λ (l : List ℕ). subWords (w + 1) (widened w left) l (netOf g n) blank) q))
+    ∙ ap (λ (l : List ℕ). subWords (w + 1) (extended 0 w left) l (netOf g n) blank) q))
 
 -- bits joined
 pub joins-and : Joins And
@@ -217,7 +219,7 @@ module _ (left right wl wr : List ℕ) (w : ℕ) (small : w ≤ 64) (p : wl ≡ 
   ult-room = rw (p, q) (wide-cost w left right small)
 
   pub ult-long : (length wl ≡ 65) × (length wr ≡ 65)
-  ult-long = (ap length p ∙ wide-long w left small, ap length q ∙ wide-long w right small)
+  ult-long = (ap length p ∙ extend-law 0 w left (omega arith) .long, ap length q ∙ extend-law 0 w right (omega arith) .long)
 
 -- a row, and the chain that adds it
 module _ (w : ℕ) (left right g g₁ row out : List ℕ) (n n₁ : At) (i : ℕ) (e : wordOf g₁ n₁ row ≡ rowOf left (getD right i 0) (w - i) (netOf g n)) where

@@ -4,9 +4,8 @@ use mathlib.Core.List.{List}
 use mathlib.Core.Bool.{Bool, true, false, not}
 use Prim.Native.Nat.{ℕ, zero, suc, _+_, _*_, _-_, _^_, _%_, _≤_, _<_}
 use native.Mathlib.Omega.{arith}
-use native.Mathlib.Decide.{decLt}
 use native.Mathlib.Numerals.{add-one}
-use native.Mathlib.Nat.{pow-suc, zero-add, add-mul-mod-self-left, mod-eq-of-lt}
+use native.Mathlib.Nat.{pow-suc, add-mul-mod-self-left, mod-eq-of-lt}
 use lib.Dec.{ltb}
 use lib.ListN.{length, getD}
 use borrow.Author.Tests.{lt-ltb, le-ltb}
@@ -25,13 +24,15 @@ use Rattle.gates.proofs.AdderLaws.{cost-known, cost-less}
 use Rattle.digits.specs.Digits.{Below}
 use Rattle.words.specs.declared.each.Bitwise.the-variants.{Not}
 use Rattle.words.specs.Num.{num, blank}
-use Rattle.words.specs.Each.{bitCost, bitValue, bitBelow, Word, eachBit, eachCost, EachLaw, putBits, Put}
+use Rattle.words.specs.Each.{bitCost, bitValue, bitBelow, Word, eachBit, eachCost, EachLaw}
 use Rattle.words.specs.Add.{Chain, addWords, addCost}
-use Rattle.words.specs.Sub.{subWords, subCost, widened, ultWords, SubLaw, UltLaw}
+use Rattle.words.specs.Sub.{subWords, subCost, ultWords, SubLaw, UltLaw}
+use Rattle.words.specs.Extend.{extended}
 use Rattle.words.proofs.Sums.{sum-suc, sum-mono}
-use Rattle.words.proofs.NumLaws.{num-lt, num-next, num-same, num-not, blank-long, blank-at}
-use Rattle.words.proofs.EachLaws.{nots-cost, each-law, below-more, put-law}
+use Rattle.words.proofs.NumLaws.{num-lt, num-next, num-not, blank-long}
+use Rattle.words.proofs.EachLaws.{nots-cost, each-law, below-more}
 use Rattle.words.proofs.AddLaws.{AddLaw, add-law, cost-three}
+use Rattle.words.proofs.ExtendLaws.{extend-law, clear-num}
 
 module _ (w : ℕ) (left right : List ℕ) (s : Net) (out : List ℕ) (small : w ≤ 65) (fits : w ≤ length out) where
   r : Word
@@ -91,51 +92,21 @@ pub sub-four : (left right : List ℕ) (w : ℕ) → subCost left right w ≤ 4 
 sub-four left right w = omega (arith, nots-cost right w, cost-three left right w)
 
 -- Ult: over one bit more, which is known false on both sides, the top bit of the difference
-module _ (w : ℕ) (bits : List ℕ) (small : w ≤ 64) where
-  p : Put 0 bits blank w (widened w bits)
-  p = put-law 0 bits blank w (omega (arith, blank-long))
-
-  pub wide-long : length (widened w bits) ≡ 65
-  wide-long = p .long ∙ blank-long
-
-  pub wide-at : (j : ℕ) → j < w → getD (widened w bits) j 0 ≡ getD bits j 0
-  wide-at j l = rw (zero-add j) at (p .there j l)
-
-  pub wide-top : getD (widened w bits) w 0 ≡ 0
-  wide-top = p .above w (omega arith) ∙ blank-at w
-
-  pub wide-num : (e : Assign) → num e (widened w bits) w ≡ num e bits w
-  wide-num e = num-same e (widened w bits) bits w wide-at
-
-  -- the top bit adds nothing
-  pub wide-next : (e : Assign) → e 0 ≡ false → num e (widened w bits) (w + 1) ≡ num e bits w
-  wide-next e z =
-      let t : bit (e (getD (widened w bits) w 0)) ≡ 0 = ap (λ (b : ℕ). bit (e b)) wide-top ∙ ap bit z in
-      let m : 2 ^ w * bit (e (getD (widened w bits) w 0)) ≡ 2 ^ w * 0 = ap (λ (k : ℕ). 2 ^ w * k) t in
-      omega (arith, num-next e (widened w bits) w, wide-num e)
-
-  pub wide-below : (k : ℕ) → 0 < k → Below k bits w → Below k (widened w bits) (w + 1)
-  wide-below k pos b i l = go (decLt i w)
-    where
-      go : Dec (i < w) → getD (widened w bits) i 0 < k
-      go (yes h) = rw (wide-at i h) (b i h)
-      go (no h) = let e : i ≡ w = omega arith in rw (e, wide-top) pos
-
-pub wide-cost : (w : ℕ) (left right : List ℕ) → w ≤ 64 → subCost (widened w left) (widened w right) (w + 1) ≤ 4 * w + 1
+pub wide-cost : (w : ℕ) (left right : List ℕ) → w ≤ 64 → subCost (extended 0 w left) (extended 0 w right) (w + 1) ≤ 4 * w + 1
 unfolding bitCost
 wide-cost w left right small =
-    let n : notCost (getD (widened w right) w 0) ≡ 0 = not-known _ (omega (arith, wide-top w right small)) in
-    let a : adderCost (getD (widened w left) w 0) (getD (widened w right) w 0) ≡ 1 = cost-known _ _ (omega (arith, wide-top w left small)) (omega (arith, wide-top w right small)) in
-    rw (add-one w, sum-suc (λ i. notCost (getD (widened w right) i 0)) w, sum-suc (λ i. adderCost (getD (widened w left) i 0) (getD (widened w right) i 0)) w)
-    (omega (arith, sub-four (widened w left) (widened w right) w))
+    let n : notCost (getD (extended 0 w right) w 0) ≡ 0 = not-known _ (omega (arith, extend-law 0 w right (omega arith) .above w (omega arith) (omega arith))) in
+    let a : adderCost (getD (extended 0 w left) w 0) (getD (extended 0 w right) w 0) ≡ 1 = cost-known _ _ (omega (arith, extend-law 0 w left (omega arith) .above w (omega arith) (omega arith))) (omega (arith, extend-law 0 w right (omega arith) .above w (omega arith) (omega arith))) in
+    rw (add-one w, sum-suc (λ i. notCost (getD (extended 0 w right) i 0)) w, sum-suc (λ i. adderCost (getD (extended 0 w left) i 0) (getD (extended 0 w right) i 0)) w)
+    (omega (arith, sub-four (extended 0 w left) (extended 0 w right) w))
 
 module _ (w : ℕ) (left right : List ℕ) (s : Net) (small : w ≤ 64) where
   d : Chain
-  d = subWords (w + 1) (widened w left) (widened w right) s blank
+  d = subWords (w + 1) (extended 0 w left) (extended 0 w right) s blank
 
-  h : SubLaw (w + 1) (widened w left) (widened w right) s blank d
+  h : SubLaw (w + 1) (extended 0 w left) (extended 0 w right) s blank d
   unfolding d
-  h = sub-law (w + 1) (widened w left) (widened w right) s blank (omega arith) (omega (arith, blank-long))
+  h = sub-law (w + 1) (extended 0 w left) (extended 0 w right) s blank (omega arith) (omega (arith, blank-long))
 
   less : (e : Assign) → Obeys (d .net) e → e (getD (d .out) w 0) ≡ ltb (num e left w) (num e right w)
   less e o = go (e (getD (d .out) w 0)) (e (d .carry)) all
@@ -154,7 +125,7 @@ module _ (w : ℕ) (left right : List ℕ) (s : Net) (small : w ≤ 64) where
           let p : 2 ^ (w + 1) ≡ 2 ^ w * 2 = ap (λ (k : ℕ). 2 ^ k) (add-one w) ∙ pow-suc 2 w in
           let c : 2 ^ (w + 1) * bit (e (d .carry)) ≡ 2 ^ w * 2 * bit (e (d .carry)) = ap (λ (k : ℕ). k * bit (e (d .carry))) p in
           let q : num e (d .out) (w + 1) ≡ D + 2 ^ w * bit (e (getD (d .out) w 0)) = num-next e (d .out) w in
-          omega (arith, h .value e o, wide-next w left small e (o .low), wide-next w right small e (o .low))
+          omega (arith, h .value e o, clear-num 0 w left (omega arith) e (w + 1) (omega arith) (omega arith) (o .low), clear-num 0 w right (omega arith) e (w + 1) (omega arith) (omega arith) (o .low))
 
       go : (top c : Bool) → D + 2 ^ w * bit top + 2 ^ w * 2 * bit c + R ≡ L + 2 ^ w * 2 → top ≡ ltb L R
       go true true q = absurd (omega (arith, num-lt e left w, num-lt e right w, num-lt e (d .out) w))
@@ -166,13 +137,13 @@ module _ (w : ℕ) (left right : List ℕ) (s : Net) (small : w ≤ 64) where
   unfolding ultWords d
   ult-law =
       record {
-        ext = ext-weaken s (d .net) (subCost (widened w left) (widened w right) (w + 1)) (4 * w + 1) (wide-cost w left right small) (h .ext);
+        ext = ext-weaken s (d .net) (subCost (extended 0 w left) (extended 0 w right) (w + 1)) (4 * w + 1) (wide-cost w left right small) (h .ext);
         value = less;
         formed = λ rm b f.
             let q : Formed (d .net) × Below (d .net .n) (d .out) (w + 1) =
-            h .formed rm (wide-below w left small (s .n) (omega (arith, f .two)) (b .0)) (wide-below w right small (s .n) (omega (arith, f .two)) (b .1)) f in
+            h .formed rm (extend-law 0 w left (omega arith) .under (s .n) (w + 1) (omega arith) (omega (arith, f .two)) (b .0)) (extend-law 0 w right (omega arith) .under (s .n) (w + 1) (omega arith) (omega (arith, f .two)) (b .1)) f in
             (q .0, q .1 w (omega arith));
         known = λ b.
-            let q : (d .net ≡ s) × Below 2 (d .out) (w + 1) = h .known (wide-below w left small 2 (omega arith) (b .0)) (wide-below w right small 2 (omega arith) (b .1)) in
+            let q : (d .net ≡ s) × Below 2 (d .out) (w + 1) = h .known (extend-law 0 w left (omega arith) .under 2 (w + 1) (omega arith) (omega arith) (b .0)) (extend-law 0 w right (omega arith) .under 2 (w + 1) (omega arith) (omega arith) (b .1)) in
             (q .0, q .1 w (omega arith));
       }

@@ -1,6 +1,7 @@
 pub mod Num
 pub mod Each
 pub mod Join
+pub mod Extend
 pub mod Add
 pub mod Sub
 pub mod Eq

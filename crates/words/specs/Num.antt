@@ -8,6 +8,9 @@ use Rattle.digits.specs.Digits.{number}
 abbrev pub num : Assign → List ℕ → ℕ → ℕ
 num e bs w = number (λ i. e (getD bs i 0)) w
 
--- what an array of scratch holds before it is written
-unfoldable pub blank : List ℕ
-blank = replicate 65 0
+-- an array of scratch that holds one bit at every place; before it is written that is known false
+unfoldable pub filled : ℕ → List ℕ
+filled b = replicate 65 b
+
+abbrev pub blank : List ℕ
+blank = filled 0

@@ -13,7 +13,8 @@ use Rattle.gates.specs.Law.{Ext, Formed, BitLaw}
 use Rattle.digits.specs.Digits.{Below}
 use Rattle.words.specs.declared.each.Bitwise.the-variants.{Not}
 use Rattle.words.specs.Num.{num, blank}
-use Rattle.words.specs.Each.{Word, eachBit, eachCost, putBits}
+use Rattle.words.specs.Each.{Word, eachBit, eachCost}
+use Rattle.words.specs.Extend.{extended}
 use Rattle.words.specs.Add.{Chain, addWords, addCost}
 
 unfoldable pub subWords : ℕ → List ℕ → List ℕ → Net → List ℕ → Chain
@@ -24,13 +25,9 @@ subWords w left right s out =
 abbrev pub subCost : List ℕ → List ℕ → ℕ → ℕ
 subCost left right w = eachCost Not right right w + addCost left right w
 
--- a word over known false bits
-abbrev pub widened : ℕ → List ℕ → List ℕ
-widened w bits = putBits 0 bits w blank
-
 unfoldable pub ultWords : ℕ → List ℕ → List ℕ → Net → MadeBit
 ultWords w left right s =
-    let c : Chain = subWords (w + 1) (widened w left) (widened w right) s blank in
+    let c : Chain = subWords (w + 1) (extended 0 w left) (extended 0 w right) s blank in
     kept (c .net) (getD (c .out) w 0)
 
 -- what is right of a subtraction

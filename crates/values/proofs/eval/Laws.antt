@@ -11,7 +11,7 @@ use Rattle.loops.proofs.Loop.{pick-true, pick-false}
 use Rattle.table.specs.declared.Fault.{Fault}
 use Rattle.table.specs.declared.Node.{Node}
 use Rattle.table.specs.declared.Unit.the-variants.{Slot}
-use Rattle.table.specs.Node.{nodes, nodeAt, given, aOf, bOf, cOf, Fine}
+use Rattle.table.specs.Node.{nodes, nodeAt, given, widthOf, aOf, bOf, cOf, Fine}
 use Rattle.table.specs.Sheet.{tableFault, isClear}
 use Rattle.table.specs.Size.{sizeOf, nodeSize, Offsets}
 use Rattle.table.proofs.size.Laws.{size-room}
@@ -29,18 +29,18 @@ module _ (t l vals : List ℕ) (i : ℕ) (d : Node) (r : Bool) (e : d ≡ nodeAt
   unfolding nodeStep
   node-kept h = sym (pick-true _ _ _ (is-given ∙ h))
 
-  node-made : (o a b c p m : ℕ) (x : List ℕ) → r ≡ false → o ≡ offset t l (i + 1) → a ≡ offset t l (d .a) → b ≡ offset t l (d .b) → c ≡ offset t l (d .c) → p ≡ placeAt l d vals b
-      → m ≡ sizeOf Slot (length l) 0 (d .width) → x ≡ iter m (slotStep l d o a b c p) vals → x ≡ nodeStep t l i vals
+  node-made : (v o a b c p m : ℕ) (x : List ℕ) → r ≡ false → v ≡ widthOf t (d .a) → o ≡ offset t l (i + 1) → a ≡ offset t l (d .a) → b ≡ offset t l (d .b) → c ≡ offset t l (d .c) → p ≡ placeAt l d vals b
+      → m ≡ sizeOf Slot (length l) 0 (d .width) → x ≡ iter m (slotStep l d v o a b c p) vals → x ≡ nodeStep t l i vals
   unfolding nodeStep nodeSize
-  node-made o a b c p m x h eo ea eb ec ep em q =
-      let made : x ≡ iter (slots t l i) (slotStep l (nodeAt t (i + 1)) (offset t l (i + 1)) (offset t l (aOf t (i + 1))) (offset t l (bOf t (i + 1))) (offset t l (cOf t (i + 1))) (placeAt l (nodeAt t (i + 1)) vals (offset t l (bOf t (i + 1))))) vals = cc in
+  node-made v o a b c p m x h ev eo ea eb ec ep em q =
+      let made : x ≡ iter (slots t l i) (slotStep l (nodeAt t (i + 1)) (widthOf t (aOf t (i + 1))) (offset t l (i + 1)) (offset t l (aOf t (i + 1))) (offset t l (bOf t (i + 1))) (offset t l (cOf t (i + 1))) (placeAt l (nodeAt t (i + 1)) vals (offset t l (bOf t (i + 1))))) vals = cc in
       made ∙ sym (pick-false _ _ _ (is-given ∙ h))
 
-  pub node-filled : Fine t l → (o : List ℕ) → Offsets Slot t (length l) 0 o → i < nodes t → (p m : ℕ) (x : List ℕ) → r ≡ false → p ≡ placeAt l d vals (getD o (d .b) 0) → m ≡ sizeOf Slot (length l) 0 (d .width)
-      → x ≡ iter m (slotStep l d (getD o (i + 1) 0) (getD o (d .a) 0) (getD o (d .b) 0) (getD o (d .c) 0) p) vals → x ≡ nodeStep t l i vals
-  node-filled f o s h p m x k ep em q =
+  pub node-filled : Fine t l → (o : List ℕ) → Offsets Slot t (length l) 0 o → i < nodes t → (v p m : ℕ) (x : List ℕ) → r ≡ false → v ≡ widthOf t (d .a) → p ≡ placeAt l d vals (getD o (d .b) 0) → m ≡ sizeOf Slot (length l) 0 (d .width)
+      → x ≡ iter m (slotStep l d v (getD o (i + 1) 0) (getD o (d .a) 0) (getD o (d .b) 0) (getD o (d .c) 0) p) vals → x ≡ nodeStep t l i vals
+  node-filled f o s h v p m x k ev ep em q =
       let z = operands-in t l i d f h e in
-      node-made _ _ _ _ p m x k (s .at (i + 1) (omega arith)) (s .at (d .a) (omega arith)) (s .at (d .b) (omega arith)) (s .at (d .c) (omega arith)) ep em q
+      node-made v _ _ _ _ p m x k ev (s .at (i + 1) (omega arith)) (s .at (d .a) (omega arith)) (s .at (d .b) (omega arith)) (s .at (d .c) (omega arith)) ep em q
 
 pub fill-room : (t l o : List ℕ) (i : ℕ) (d : Node) (m n : ℕ) → Ready t l o → i < nodes t → d ≡ nodeAt t (i + 1) → m ≡ sizeOf Slot (length l) 0 (d .width)
     → total t l ≤ n → getD o (i + 1) 0 + m ≤ n

@@ -38,25 +38,25 @@ module _ (vals : List ℕ) (a b c j x r : ℕ) (e : x ≡ getD vals a 0) where
   unfolding iteValue pick
   ite-false h q = rw (← e, ne-eqb x 1 h) q
 
-module _ (l : List ℕ) (d : Node) (vals : List ℕ) (a b c p j r : ℕ) where
-  pub slot-state : d .kind ≡ STATE → r ≡ getD vals (a + j) 0 → r ≡ slotAt l d vals a b c p j
+module _ (l : List ℕ) (d : Node) (v : ℕ) (vals : List ℕ) (a b c p j r : ℕ) where
+  pub slot-state : d .kind ≡ STATE → r ≡ getD vals (a + j) 0 → r ≡ slotAt l d v vals a b c p j
   unfolding slotAt pick
   slot-state h q = rw h q
 
-  pub slot-ite : d .kind ≡ ITE → r ≡ iteValue vals a b c j → r ≡ slotAt l d vals a b c p j
+  pub slot-ite : d .kind ≡ ITE → r ≡ iteValue vals a b c j → r ≡ slotAt l d v vals a b c p j
   unfolding slotAt pick
   slot-ite h q = rw h q
 
-  pub slot-read : d .kind ≡ READ → r ≡ readValue l vals a p → r ≡ slotAt l d vals a b c p j
+  pub slot-read : d .kind ≡ READ → r ≡ readValue l vals a p → r ≡ slotAt l d v vals a b c p j
   unfolding slotAt pick
   slot-read h q = rw h q
 
-  pub slot-write : (y : ℕ) → d .kind ≡ WRITE → y ≡ getD vals c 0 → r ≡ writeValue vals a p y j → r ≡ slotAt l d vals a b c p j
+  pub slot-write : (y : ℕ) → d .kind ≡ WRITE → y ≡ getD vals c 0 → r ≡ writeValue vals a p y j → r ≡ slotAt l d v vals a b c p j
   unfolding slotAt pick
   slot-write y h f q = rw (h, ← f) q
 
   pub slot-word : (x y : ℕ) → (d .kind ≡ STATE → ⊥) → (d .kind ≡ ITE → ⊥) → (d .kind ≡ READ → ⊥) → (d .kind ≡ WRITE → ⊥) → x ≡ getD vals a 0 → y ≡ getD vals b 0
-      → r ≡ wordValue d x y → r ≡ slotAt l d vals a b c p j
+      → r ≡ wordValue d v x y → r ≡ slotAt l d v vals a b c p j
   unfolding slotAt pick
   slot-word x y h3 h10 h16 h17 e f q = rw (ne-eqb (d .kind) STATE h3, ne-eqb (d .kind) ITE h10, ne-eqb (d .kind) READ h16, ne-eqb (d .kind) WRITE h17, ← e, ← f) q
 

@@ -1,12 +1,13 @@
 -- Arithmetic modulo 2^v over machine words.
 use mathlib.Core.Path.{_≡_, ap, ap₂, sym, _∙_}
-use Prim.Native.Nat.{ℕ, _+_, _-_, _*_, _/_, _%_, _^_, _≤_, _<_}
+use Prim.Native.Nat.{ℕ, zero, suc, _+_, _-_, _*_, _/_, _%_, _^_, _≤_, _<_}
 use native.Mathlib.Omega.{arith}
-use native.Mathlib.Nat.{mod-eq-of-lt, mod-lt, mod-add-mod, add-mul-mod-self-right, div-add-mod', mul-add, add-mul, mul-assoc, mul-comm, mul-mul-mul-comm, lt-of-lt-of-le, mul-le-mul}
-use lib.Pow.{pow-pos, pow-mono, shl-exact, mod-mod-pow}
-use borrow.Author.Tests.{lt-ltb}
-use Rattle.loops.proofs.Loop.{pick-true}
-use Rattle.values.specs.Value.{notWord, addWord, subWord, mulWord, sllWord}
+use native.Mathlib.Nat.{mod-eq-of-lt, mod-lt, mod-add-mod, add-mul-mod-self-right, div-add-mod', mul-add, add-mul, mul-assoc, mul-comm, mul-mul-mul-comm, lt-of-lt-of-le, mul-le-mul, mul-mod-left, pow-suc}
+use native.Mathlib.Decide.{decLt}
+use lib.Pow.{pow-pos, pow-mono, pow-lt, pow-add, shl-exact, mod-mod-pow}
+use borrow.Author.Tests.{lt-ltb, le-ltb}
+use Rattle.loops.proofs.Loop.{pick-true, pick-false}
+use Rattle.values.specs.Value.{notWord, addWord, subWord, mulWord, sllWord, sextWord}
 
 pub shift-one : (v : ℕ) → v < 64 → (1 * 2 ^ v) % 2 ^ 64 ≡ 2 ^ v
 shift-one v h = shl-exact {a = 1} 1 v 64 (omega arith) (omega arith) ∙ (omega arith)
@@ -70,6 +71,41 @@ module _ (v x y s : ℕ) (h : v ≤ 64) (e : (s + y) % 2 ^ 64 ≡ x) where
   pub sub-path : (r : ℕ) → r ≡ s % 2 ^ v → r ≡ subWord v x y
   unfolding subWord
   sub-path r q = q ∙ sub-law
+
+-- half of v ones is the greatest number without the top bit
+half-ones : (v : ℕ) → (2 ^ v - 1) / 2 + 1 ≡ 2 ^ (v - 1)
+half-ones zero = omega arith
+half-ones (suc k) =
+    let e : 2 ^ suc k ≡ 2 ^ k * 2 = pow-suc 2 k in
+    let z : suc k - 1 ≡ k = omega arith in
+    rw z (omega (arith, pow-pos k))
+
+-- what a set top bit takes away is 0 modulo 2^w where no bit is added
+less-top : (v w x : ℕ) → Dec (v < w) → (x + (2 ^ w - 2 ^ v % 2 ^ w)) % 2 ^ w ≡ (x + (2 ^ w - 2 ^ v)) % 2 ^ w
+less-top v w x (yes h) = ap (λ k. (x + (2 ^ w - k)) % 2 ^ w) (mod-eq-of-lt (pow-lt h))
+less-top v w x (no h) =
+    let e : v - w + w ≡ v = omega arith in
+    let p : 2 ^ v ≡ 2 ^ (v - w) * 2 ^ w = ap (λ k. 2 ^ k) (sym e) ∙ pow-add 2 (v - w) w in
+    let z : 2 ^ v % 2 ^ w ≡ 0 = ap (λ k. k % 2 ^ w) p ∙ mul-mod-left (2 ^ (v - w)) (2 ^ w) in
+    let m : 2 ^ w ≤ 2 ^ v = pow-mono (omega arith) in
+    let a : x + (2 ^ w - 2 ^ v % 2 ^ w) ≡ x + 1 * 2 ^ w = omega arith in
+    let b : x + (2 ^ w - 2 ^ v) ≡ x = omega arith in
+    ap (λ k. k % 2 ^ w) a ∙ (add-mul-mod-self-right x 1 (2 ^ w) ∙ ap (λ k. k % 2 ^ w) (sym b))
+
+module _ (v w x m : ℕ) (e : m ≡ 2 ^ v - 1) where
+  pub sext-clear : x ≤ m / 2 → x ≡ sextWord v w x
+  unfolding sextWord
+  sext-clear h = sym (pick-true _ _ _ (lt-ltb x (2 ^ (v - 1)) (omega (arith, half-ones v))))
+
+  pub sext-set : (s r : ℕ) → w ≤ 64 → m / 2 < x → s ≡ (m + 1) % 2 ^ 64 → r ≡ subWord w x s → r ≡ sextWord v w x
+  unfolding sextWord subWord
+  sext-set s r h k q t =
+      let f : m + 1 ≡ 2 ^ v = omega (arith, pow-pos v) in
+      let n : s % 2 ^ w ≡ 2 ^ v % 2 ^ w = ap (λ z. z % 2 ^ w) q ∙ (narrow (m + 1) w h ∙ ap (λ z. z % 2 ^ w) f) in
+      t
+      ∙ (ap (λ z. (x + (2 ^ w - z)) % 2 ^ w) n
+      ∙ (less-top v w x (decLt v w)
+      ∙ sym (pick-false _ _ _ (le-ltb x (2 ^ (v - 1)) (omega (arith, half-ones v))))))
 
 -- a product of two numbers of two digits
 pub expand : (a b c d p : ℕ) → (a * p + b) * (c * p + d) ≡ a * c * (p * p) + (a * d + b * c) * p + b * d

@@ -1,4 +1,4 @@
-use Rattle.words.specs.Num.{blank}
+use Rattle.words.specs.Num.{filled}
 use native.Mathlib.Omega.{arith}
 use Rattle.division.proofs.Paths.{pair-most, free-path}
 use borrow.Author.Needs.{needs}
@@ -26,7 +26,7 @@ slice-aggregate-check-words-2 : tie.Need-slice-aggregate-check-words-2
 slice-aggregate-check-words-2 c = search needs
 
 check-words-requires : tie.Need-check-words-requires
-unfolding blank
+unfolding filled
 check-words-requires c κs = let p = c .before .before .before .before .before .before .before .before .before .before .before .before .before .before .before .before .before .pre .0 in let q = c .before .before .before .before .before .before .before .before .before .before .before .before .before .before .before .before .before .pre .1 .0 in let r = c .before .before .before .before .before .before .before .before .before .before .before .before .before .before .before .before .before .pre .1 .1 in omega (arith, pair-most (c .before .before .before .before .before .before .before .before .before .before .before .before .before .before .before .before .before .args .node) (c .before .before .before .before .before .before .before .before .before .before .before .before .before .before .before .before .before .args .w) _ (c .before .before .before .before .before .before .before .before .before .before .before .before .before .before .before .before .before .args .at) _ _ _ _ (c .before .before .before .before .before .before .before .before .before .before .before .before .before .before .before .before .before .pre .1 .1 .0) (c .before .before .before .before .before .before .before .before .pair-words .ensures))
 
 slice-aggregate-put-asked : tie.Need-slice-aggregate-put-asked
@@ -36,7 +36,7 @@ slice-aggregate-put-asked-2 : tie.Need-slice-aggregate-put-asked-2
 slice-aggregate-put-asked-2 c = search needs
 
 put-asked-requires : tie.Need-put-asked-requires
-unfolding blank
+unfolding filled
 put-asked-requires c κs = let r = c .before .before .before .before .before .before .before .before .before .before .before .before .before .before .before .before .before .before .before .before .before .before .before .before .before .pre .1 .1 in omega arith
 
 same-length : tie.Need-same-length
@@ -49,7 +49,7 @@ same-length-3 : tie.Need-same-length-3
 same-length-3 c = search needs
 
 returns : tie.Need-returns
-unfolding blank
+unfolding filled
 returns c = free-path (c .before .before .before .before .before .before .before .before .before .before .before .before .before .before .before .before .before .before .before .before .before .before .before .before .before .before .before .before .args .quotient) (c .before .before .before .before .before .before .before .before .before .before .before .before .before .before .before .before .before .before .before .before .before .before .before .before .before .before .before .before .args .w) (c .before .before .before .before .before .before .before .before .before .before .before .before .before .before .before .before .before .before .before .before .before .before .before .before .before .before .before .before .args .node) (c .before .before .before .before .before .before .before .before .before .before .before .before .before .before .before .before .before .before .before .before .before .before .before .before .before .before .before .before .args .num .now) (c .before .before .before .before .before .before .before .before .before .before .before .before .before .before .before .before .before .before .before .before .before .before .before .before .before .before .before .before .args .den .now) _ _ _ _ _ _ _ _ _ _ _ _ _ _ (c .before .before .before .before .before .before .before .before .before .before .before .before .before .before .before .before .before .before .before .pair-words .ensures) (c .before .before .before .before .before .before .before .before .before .before .check-words .ensures) (c .before .before .put-asked .ensures)
 
 pub divide-free-spec : {M : Type 1} → statement M

@@ -1,4 +1,4 @@
-use Rattle.words.specs.Num.{blank}
+use Rattle.words.specs.Num.{filled}
 use Prim.Native.Nat.{_-_}
 use lib.ListN.{getD}
 use native.Mathlib.Omega.{arith}
@@ -46,14 +46,14 @@ slice-aggregate-each-bit-2 : tie.Need-slice-aggregate-each-bit-2
 slice-aggregate-each-bit-2 c = search needs
 
 each-bit-requires-2 : tie.Need-each-bit-requires-2
-unfolding blank
+unfolding filled
 each-bit-requires-2 c κs = omega (arith, lost-room (c .before .before .before .before .before .before .before .before .before .before .before .before .before .before .before .args .w) (c .before .before .before .before .before .before .before .before .before .before .before .before .before .before .before .args .quot .now) (c .before .before .before .before .before .before .before .before .before .before .before .before .before .before .before .args .den .now) _ _ (c .before .before .before .before .before .before .before .before .before .before .before .before .before .before .before .args .i) _ _ _ (c .before .before .before .before .before .each-bit .ensures) (places (c .before .before .before .before .before .before .before .before .before .before .before .before .before .before .before .args .w - c .before .before .before .before .before .before .before .before .before .before .before .before .before .before .before .args .i) (c .before .before .before .before .before .before .before .before .before .before .before .before .before .before .before .args .w) (c .before .before .before .before .before .before .before .before .before .before .before .before .before .before .before .args .quot .now)))
 
 slice-aggregate-add-onto : tie.Need-slice-aggregate-add-onto
 slice-aggregate-add-onto c = search needs
 
 add-onto-requires : tie.Need-add-onto-requires
-unfolding blank
+unfolding filled
 add-onto-requires c κs = omega (arith, chain-room (c .before .before .before .before .before .before .before .before .before .before .before .before .before .before .before .before .before .before .before .before .before .before .args .w) (c .before .before .before .before .before .before .before .before .before .before .before .before .before .before .before .before .before .before .before .before .before .before .args .quot .now) (c .before .before .before .before .before .before .before .before .before .before .before .before .before .before .before .before .before .before .before .before .before .before .args .den .now) _ _ (c .before .before .before .before .before .before .before .before .before .before .before .before .before .before .before .before .before .before .before .before .before .before .args .i) _ _ _ (c .before .before .before .before .before .before .before .before .before .before .before .before .each-bit .ensures) _ _ _ (c .before .before .before .before .before .before .each-bit2 .ensures) (c .before .before .before .before .before .before .before .before .before .before .before .before .before .before .before .before .before .before .before .before .before .before .args .sum .now))
 
 slice-aggregate-constrain-each : tie.Need-slice-aggregate-constrain-each
@@ -75,7 +75,7 @@ same-length-3 : tie.Need-same-length-3
 same-length-3 c = search needs
 
 returns : tie.Need-returns
-unfolding blank
+unfolding filled
 returns c = row-path (c .before .before .before .before .before .before .before .before .before .before .before .before .before .before .before .before .before .before .before .before .before .before .before .before .before .before .before .before .before .before .before .before .before .before .before .before .before .args .w) (c .before .before .before .before .before .before .before .before .before .before .before .before .before .before .before .before .before .before .before .before .before .before .before .before .before .before .before .before .before .before .before .before .before .before .before .before .before .args .quot .now) (c .before .before .before .before .before .before .before .before .before .before .before .before .before .before .before .before .before .before .before .before .before .before .before .before .before .before .before .before .before .before .before .before .before .before .before .before .before .args .den .now) _ _ (c .before .before .before .before .before .before .before .before .before .before .before .before .before .before .before .before .before .before .before .before .before .before .before .before .before .before .before .before .before .before .before .before .before .before .before .before .before .args .i) _ _ _ (c .before .before .before .before .before .before .before .before .before .before .before .before .before .before .before .before .before .before .before .before .before .before .before .before .before .before .before .each-bit .ensures) _ _ _ (c .before .before .before .before .before .before .before .before .before .before .before .before .before .before .before .before .before .before .before .before .before .each-bit2 .ensures) _ _ _ _ _ _ _ _ _ _ _ (c .before .before .before .before .before .before .before .before .before .before .before .before .before .before .add-onto .ensures) (c .before .before .before .before .before .before .before .constrain-each .ensures) (c .before .before .before .put-constraint .ensures)
 
 pub row-step-spec : {M : Type 1} → statement M

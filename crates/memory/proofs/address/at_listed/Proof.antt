@@ -1,4 +1,4 @@
-use Rattle.words.specs.Num.{blank}
+use Rattle.words.specs.Num.{filled}
 use native.Mathlib.Omega.{arith}
 use Rattle.memory.proofs.Paths.{at-room, at-path}
 use borrow.Author.Needs.{needs}
@@ -19,14 +19,14 @@ slice-aggregate-eq-words : tie.Need-slice-aggregate-eq-words
 slice-aggregate-eq-words c = search needs
 
 eq-words-requires : tie.Need-eq-words-requires
-unfolding blank
+unfolding filled
 eq-words-requires c κs = omega (arith, at-room (c .before .before .before .before .before .before .before .args .w) (c .before .before .before .before .before .before .before .args .a) (c .before .before .before .before .before .before .before .args .adr .now) _ (c .before .before .before .put-digits .ensures) (c .before .before .before .before .before .before .before .pre .1 .0) (c .before .before .before .before .before .before .before .pre .1 .1))
 
 same-length : tie.Need-same-length
 same-length c = search needs
 
 returns : tie.Need-returns
-unfolding blank
+unfolding filled
 returns c = at-path _ _ _ _ (c .before .before .before .before .before .before .put-digits .ensures) _ _ (c .before .before .eq-words .ensures)
 
 pub at-listed-spec : {M : Type 1} → statement M

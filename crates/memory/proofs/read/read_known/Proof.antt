@@ -1,4 +1,4 @@
-use Rattle.words.specs.Num.{blank}
+use Rattle.words.specs.Num.{filled}
 use native.Mathlib.Omega.{arith}
 use Rattle.memory.proofs.AddressLaws.{word-end}
 use Rattle.memory.proofs.Paths.{read-listed, read-unlisted}
@@ -50,7 +50,7 @@ same-length-2 : tie.Need-same-length-2
 same-length-2 c = search needs
 
 returns-2 : tie.Need-returns-2
-unfolding blank
+unfolding filled
 returns-2 c = search (needs, read-unlisted)
 
 pub read-known-spec : {M : Type 1} → statement M

@@ -1,4 +1,4 @@
-use Rattle.words.specs.Num.{blank}
+use Rattle.words.specs.Num.{filled}
 use native.Mathlib.Omega.{arith}
 use Rattle.memory.proofs.Paths.{ands-room, ors-room, read-one-path}
 use borrow.Author.Needs.{needs}
@@ -17,7 +17,7 @@ slice-aggregate-each-bit : tie.Need-slice-aggregate-each-bit
 slice-aggregate-each-bit c = search needs
 
 each-bit-requires : tie.Need-each-bit-requires
-unfolding blank
+unfolding filled
 each-bit-requires c κs = omega (arith, ands-room (c .before .before .before .before .before .before .before .before .before .before .args .w) (c .before .before .before .before .before .before .before .before .before .before .args .a) (c .before .before .before .before .before .before .before .before .before .before .args .word .now) _ _ _ _ _ _ (c .before .before .before .before .before .before .before .before .before .before .pre .1 .0) (c .before .before .before .before .before .before .before .before .before .before .pre .1 .1) (c .before .before .before .before .at-listed .ensures))
 
 slice-aggregate-put-bits : tie.Need-slice-aggregate-put-bits
@@ -33,7 +33,7 @@ slice-aggregate-each-bit-3 : tie.Need-slice-aggregate-each-bit-3
 slice-aggregate-each-bit-3 c = search needs
 
 each-bit-requires-2 : tie.Need-each-bit-requires-2
-unfolding blank
+unfolding filled
 each-bit-requires-2 c κs = omega (arith, ors-room (c .before .before .before .before .before .before .before .before .before .before .before .before .before .before .before .before .before .before .before .before .before .before .args .w) (c .before .before .before .before .before .before .before .before .before .before .before .before .before .before .before .before .before .before .before .before .before .before .args .a) (c .before .before .before .before .before .before .before .before .before .before .before .before .before .before .before .before .before .before .before .before .before .before .args .word .now) _ _ _ _ _ _ (c .before .before .before .before .before .before .before .before .before .before .before .before .before .before .before .before .before .before .before .before .before .before .pre .1 .0) (c .before .before .before .before .before .before .before .before .before .before .before .before .before .before .before .before .before .before .before .before .before .before .pre .1 .1) (c .before .before .before .before .before .before .before .before .before .before .before .before .before .before .before .before .at-listed .ensures) _ _ _ (c .before .before .before .before .before .before .before .before .before .before .before .each-bit .ensures) _ _ (c .before .before .before .before .before .put-bits .ensures))
 
 same-length : tie.Need-same-length
@@ -43,7 +43,7 @@ same-length-2 : tie.Need-same-length-2
 same-length-2 c = search needs
 
 returns : tie.Need-returns
-unfolding blank
+unfolding filled
 returns c = read-one-path _ _ _ _ _ _ _ _ _ (c .before .before .before .before .before .before .before .before .before .before .before .before .before .before .before .before .before .before .before .before .before .before .before .before .before .before .before .pre .1 .0) (c .before .before .before .before .before .before .before .before .before .before .before .before .before .before .before .before .before .before .before .before .before .before .before .before .before .before .before .pre .1 .1) (c .before .before .before .before .before .before .before .before .before .before .before .before .before .before .before .before .before .before .before .before .before .at-listed .ensures) _ _ _ (c .before .before .before .before .before .before .before .before .before .before .before .before .before .before .before .before .each-bit .ensures) _ _ (c .before .before .before .before .before .before .before .before .before .before .put-bits .ensures) _ (c .before .before .before .before .each-bit2 .ensures)
 
 pub read-one-spec : {M : Type 1} → statement M

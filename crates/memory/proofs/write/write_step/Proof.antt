@@ -1,4 +1,4 @@
-use Rattle.words.specs.Num.{blank}
+use Rattle.words.specs.Num.{filled}
 use native.Mathlib.Omega.{arith}
 use Rattle.memory.proofs.Paths.{choose-room, write-step-path}
 use borrow.Author.Needs.{needs}
@@ -41,7 +41,7 @@ slice-aggregate-each-bit : tie.Need-slice-aggregate-each-bit
 slice-aggregate-each-bit c = search needs
 
 each-bit-requires : tie.Need-each-bit-requires
-unfolding blank
+unfolding filled
 each-bit-requires c κs = omega (arith, choose-room (c .before .before .before .before .before .before .before .before .before .before .before .before .before .before .args .w) (c .before .before .before .before .before .before .before .before .before .before .before .before .before .before .args .i) (c .before .before .before .before .before .before .before .before .before .before .before .before .before .before .args .addrs .now) (c .before .before .before .before .before .before .before .before .before .before .before .before .before .before .args .adr .now) (c .before .before .before .before .before .before .before .before .before .before .before .before .before .before .args .val .now) _ _ _ _ _ (c .before .before .before .before .before .before .before .before .before .before .before .before .before .before .pre .1 .0 .0) (c .before .before .before .before .before .before .before .before .before .before .before .before .before .before .pre .1 .0 .1) (c .before .before .before .before .before .before .at-listed .ensures) (c .before .before .before .before .before .before .before .before .before .before .before .before .before .before .args .mem .now))
 
 slice-aggregate-put-bits : tie.Need-slice-aggregate-put-bits
@@ -57,7 +57,7 @@ same-length-2 : tie.Need-same-length-2
 same-length-2 c = search needs
 
 returns : tie.Need-returns
-unfolding blank
+unfolding filled
 returns c = write-step-path _ _ _ _ _ _ _ _ _ _ (c .before .before .before .before .before .before .before .before .before .before .before .before .before .before .before .before .before .before .before .before .before .before .before .pre .1 .0 .0) (c .before .before .before .before .before .before .before .before .before .before .before .before .before .before .before .before .before .before .before .before .before .before .before .pre .1 .0 .1) (c .before .before .before .before .before .before .before .before .before .before .before .before .before .before .before .at-listed .ensures) _ _ _ _ _ (c .before .before .before .before .before .before .before .before .each-bit .ensures) (c .before .before .put-bits .ensures)
 
 pub write-step-spec : {M : Type 1} → statement M

@@ -1,7 +1,7 @@
 use native.Mathlib.Omega.{arith}
 use lib.ListN.{take, drop, getD}
 use Prim.Native.Nat.{_+_, _*_, _-_}
-use Rattle.words.specs.Num.{blank}
+use Rattle.words.specs.Num.{filled}
 use Rattle.words.proofs.EachLaws.{choose-cost}
 use Rattle.nodes.proofs.Paths.{choose-word-path}
 use borrow.Author.Needs.{needs}
@@ -88,7 +88,7 @@ same-length-2 : tie.Need-same-length-2
 same-length-2 c = search needs
 
 returns : tie.Need-returns
-unfolding blank
+unfolding filled
 returns c = choose-word-path (c .before .before .before .before .before .before .before .before .before .before .before .before .before .before .before .before .before .args .cond) (c .before .before .before .before .before .before .before .before .before .before .before .before .before .before .before .before .before .args .a) (c .before .before .before .before .before .before .before .before .before .before .before .before .before .before .before .before .before .args .b) (c .before .before .before .before .before .before .before .before .before .before .before .before .before .before .before .before .before .args .to) (c .before .before .before .before .before .before .before .before .before .before .before .before .before .before .before .before .before .args .w) (c .before .before .before .before .before .before .before .before .before .before .before .before .before .before .before .before .before .args .i) _ _ _ (c .before .before .before .before .before .before .before .before .before .before .before .before .before .before .before .before .before .args .map .now) _ _ _ (c .before .before .before .before .before .before .before .before .each-bit .ensures) (c .before .before .put-bits .ensures)
 
 pub choose-word-spec : {M : Type 1} → statement M

@@ -1,4 +1,4 @@
-use Rattle.words.specs.Num.{blank}
+use Rattle.words.specs.Num.{filled}
 use Rattle.nodes.proofs.Paths.{input-word-path}
 use borrow.Author.Needs.{needs}
 use Rattle.nodes.proofs.input.input_word.Statement.{statement}
@@ -33,7 +33,7 @@ same-length-2 : tie.Need-same-length-2
 same-length-2 c = search needs
 
 returns : tie.Need-returns
-unfolding blank
+unfolding filled
 returns c = input-word-path (c .before .before .before .before .before .before .before .before .before .before .before .before .before .args .node) (c .before .before .before .before .before .before .before .before .before .before .before .before .before .args .to) (c .before .before .before .before .before .before .before .before .before .before .before .before .before .args .w) (c .before .before .before .before .before .before .before .before .before .before .before .before .before .args .i) _ _ _ (c .before .before .before .before .before .before .before .before .before .before .before .before .before .args .map .now) _ _ _ (c .before .before .before .before .before .before .before .before .input-bits .ensures) (c .before .before .put-bits .ensures)
 
 pub input-word-spec : {M : Type 1} → statement M

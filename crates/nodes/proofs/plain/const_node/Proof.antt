@@ -1,7 +1,7 @@
 use mathlib.Core.Path.{_∙_, ap}
 use mathlib.Core.List.{List}
 use Prim.Native.Nat.{ℕ}
-use Rattle.words.specs.Num.{blank}
+use Rattle.words.specs.Num.{filled}
 use Rattle.words.specs.Each.{putBits}
 use borrow.Author.Needs.{needs}
 use Rattle.nodes.proofs.plain.const_node.Statement.{statement}
@@ -27,7 +27,7 @@ same-length : tie.Need-same-length
 same-length c = search needs
 
 returns : tie.Need-returns
-unfolding blank
+unfolding filled
 returns c = c .before .before .put-bits .ensures ∙ ap (λ (l : List ℕ). putBits (c .before .before .before .before .before .before .before .before .before .args .to) l (c .before .before .before .before .before .before .before .before .before .args .w) (c .before .before .before .before .before .before .before .before .before .args .map .now)) (c .before .before .before .before .before .before .put-digits .ensures)
 
 pub const-node-spec : {M : Type 1} → statement M

@@ -1,5 +1,5 @@
 use mathlib.Core.Path.{refl}
-use Rattle.words.specs.Num.{blank}
+use Rattle.words.specs.Num.{filled}
 use Rattle.nodes.proofs.Paths.{plain-path}
 use borrow.Author.Needs.{needs}
 use Rattle.nodes.proofs.plain.plain_node.Statement.{statement}
@@ -43,7 +43,7 @@ slice-aggregate-plain-word : tie.Need-slice-aggregate-plain-word
 slice-aggregate-plain-word c = search needs
 
 plain-word-requires : tie.Need-plain-word-requires
-unfolding blank
+unfolding filled
 plain-word-requires c κs = (c .before .before .before .before .before .before .before .pre .0, (c .before .before .before .before .before .before .before .pre .1 .0, (search needs, search needs, search needs, search needs, refl)))
 
 slice-aggregate-put-bits : tie.Need-slice-aggregate-put-bits
@@ -59,7 +59,7 @@ same-length-2 : tie.Need-same-length-2
 same-length-2 c = search needs
 
 returns : tie.Need-returns
-unfolding blank
+unfolding filled
 returns c = plain-path (c .before .before .before .before .before .before .before .before .before .before .before .before .before .before .before .before .args .node) (c .before .before .before .before .before .before .before .before .before .before .before .before .before .before .before .before .args .v) (c .before .before .before .before .before .before .before .before .before .before .before .before .before .before .before .before .args .a) (c .before .before .before .before .before .before .before .before .before .before .before .before .before .before .before .before .args .b) (c .before .before .before .before .before .before .before .before .before .before .before .before .before .before .before .before .args .to) _ _ _ (c .before .before .before .before .before .before .before .before .before .before .before .before .before .before .before .before .args .map .now) _ _ _ (c .before .before .before .before .before .before .before .before .plain-word .ensures) (c .before .before .put-bits .ensures)
 
 pub plain-node-spec : {M : Type 1} → statement M

@@ -1,5 +1,6 @@
 use Rattle.nodes.specs.Source.{source}
-use Rattle.nodes.proofs.WordFacts.{const-asks, const-turn, a-in, right-in, plain-asks, plain-turn}
+use Rattle.nodes.proofs.Facts.{a-in}
+use Rattle.nodes.proofs.WordFacts.{const-asks, const-turn, right-in, plain-asks, plain-turn}
 use native.Mathlib.Omega.{arith}
 use borrow.Author.Needs.{needs}
 use Rattle.nodes.proofs.plain.word_node.Statement.{statement}
@@ -24,7 +25,7 @@ returns : tie.Need-returns
 returns c = const-turn (source (c .before .before .before .before .before .before .before .before .before .before .before .before .args .table .now) (c .before .before .before .before .before .before .before .before .before .before .before .before .args .addrs .now) (c .before .before .before .before .before .before .before .before .before .before .before .before .args .word)) (c .before .before .before .before .before .before .before .before .before .before .before .before .args .offs .now) (c .before .before .before .before .before .before .before .before .before .before .before .before .args .gates .now) (c .before .before .before .before .before .before .before .before .before .before .before .before .args .at) _ (c .before .before .before .before .before .before .before .before .before .before .before .before .args .k) (c .before .before .before .before .before .before .before .before .before .before .before .before .pre .0) (c .before .before .before .before .before .before .before .before .before .before .before .before .args .node) (c .before .before .before .before .before .before .before .before .before .before .before .before .pre .1) (c .before .before .before .before .before .before .before .before .before .before .before .before .pre .2) _ (c .before .before .before .before .before .before .place-of .ensures) (c .before .before .before .before .if1 .taken) _ _ _ (c .before .before .const-node .ensures)
 
 place-of-requires-2 : tie.Need-place-of-requires-2
-place-of-requires-2 c κs = (c .before .before .before .before .before .before .before .before .pre .0 .stands .offsets, a-in (source (c .before .before .before .before .before .before .before .before .args .table .now) (c .before .before .before .before .before .before .before .before .args .addrs .now) (c .before .before .before .before .before .before .before .before .args .word)) (c .before .before .before .before .before .before .before .before .args .offs .now) (c .before .before .before .before .before .before .before .before .args .gates .now) (c .before .before .before .before .before .before .before .before .args .at) _ (c .before .before .before .before .before .before .before .before .args .k) (c .before .before .before .before .before .before .before .before .pre .0) (c .before .before .before .before .before .before .before .before .args .node) (c .before .before .before .before .before .before .before .before .pre .1))
+place-of-requires-2 c κs = (c .before .before .before .before .before .before .before .before .pre .0 .stands .offsets, a-in (source (c .before .before .before .before .before .before .before .before .args .table .now) (c .before .before .before .before .before .before .before .before .args .addrs .now) (c .before .before .before .before .before .before .before .before .args .word)) (c .before .before .before .before .before .before .before .before .args .offs .now) _ (c .before .before .before .before .before .before .before .before .args .k) (c .before .before .before .before .before .before .before .before .pre .0 .stands) (c .before .before .before .before .before .before .before .before .args .node) (c .before .before .before .before .before .before .before .before .pre .1))
 
 right-of-requires : tie.Need-right-of-requires
 right-of-requires c κs = search needs

@@ -1,4 +1,4 @@
-use Rattle.words.specs.Num.{blank}
+use Rattle.words.specs.Num.{filled}
 use Rattle.nodes.proofs.MemoryFacts.{read-path}
 use borrow.Author.Needs.{needs}
 use Rattle.nodes.proofs.read.read_at.Statement.{statement}
@@ -60,7 +60,7 @@ same-length-2 : tie.Need-same-length-2
 same-length-2 c = search needs
 
 returns : tie.Need-returns
-unfolding blank
+unfolding filled
 returns c = read-path (c .before .before .before .before .before .before .before .before .before .before .before .before .before .before .before .before .before .args .addrs .now) (c .before .before .before .before .before .before .before .before .before .before .before .before .before .before .before .before .before .args .mem) (c .before .before .before .before .before .before .before .before .before .before .before .before .before .before .before .before .before .args .adr) (c .before .before .before .before .before .before .before .before .before .before .before .before .before .before .before .before .before .args .to) (c .before .before .before .before .before .before .before .before .before .before .before .before .before .before .before .before .before .args .w) _ _ _ (c .before .before .before .before .before .before .before .before .before .before .before .before .before .before .before .before .before .args .map .now) _ _ _ (c .before .before .before .before .before .before .before .before .read-words .ensures) (c .before .before .put-bits .ensures)
 
 pub read-at-spec : {M : Type 1} → statement M

@@ -1,4 +1,4 @@
-use Rattle.words.specs.Num.{blank}
+use Rattle.words.specs.Num.{filled}
 use Rattle.nodes.proofs.Paths.{share-path}
 use borrow.Author.Needs.{needs}
 use Rattle.nodes.proofs.share.share_word.Statement.{statement}
@@ -50,8 +50,8 @@ same-length : tie.Need-same-length
 same-length c = search needs
 
 returns : tie.Need-returns
-unfolding blank
-returns c = share-path (c .before .before .before .before .before .before .before .before .before .before .before .args .from) (c .before .before .before .before .before .before .before .before .before .before .before .args .v) (c .before .before .before .before .before .before .before .before .before .before .before .args .to) (c .before .before .before .before .before .before .before .before .before .before .before .args .w) (c .before .before .before .before .before .before .before .before .before .before .before .args .i) _ (c .before .before .before .before .before .before .before .before .before .before .before .args .map .now) _ (c .before .before .before .before .before .before .put-bits .ensures) (c .before .before .put-bits2 .ensures)
+unfolding filled
+returns c = share-path (c .before .before .before .before .before .before .before .before .before .before .before .args .above) (c .before .before .before .before .before .before .before .before .before .before .before .args .from) (c .before .before .before .before .before .before .before .before .before .before .before .args .v) (c .before .before .before .before .before .before .before .before .before .before .before .args .to) (c .before .before .before .before .before .before .before .before .before .before .before .args .w) (c .before .before .before .before .before .before .before .before .before .before .before .args .i) _ (c .before .before .before .before .before .before .before .before .before .before .before .args .map .now) _ (c .before .before .before .before .before .before .put-bits .ensures) (c .before .before .put-bits2 .ensures)
 
 pub share-word-spec : {M : Type 1} → statement M
 share-word-spec =

@@ -14,10 +14,10 @@ use Rattle.nodes.proofs.share.share_words.Lts as lts
 use Rattle.nodes.proofs.share.share_word.Reads as share-word-reads
 
 abbrev Inv-loop : tie.InvT-loop
-Inv-loop from v to words w map₀ i₀ map i = (i ≤ words) × (map ≡ iter i (shareAt from v to w) map₀) × (length map ≡ length map₀)
+Inv-loop above from v to words w map₀ i₀ map i = (i ≤ words) × (map ≡ iter i (shareAt above from v to w) map₀) × (length map ≡ length map₀)
 
 abbrev μ-loop : tie.MeasureT-loop
-μ-loop from v to words w map₀ i₀ map i = words - i
+μ-loop above from v to words w map₀ i₀ map i = words - i
 
 loop-holds : tie.Need-loop-holds Inv-loop μ-loop
 loop-holds c = search (needs, loop-none)

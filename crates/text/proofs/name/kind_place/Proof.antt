@@ -3,6 +3,7 @@ use Prim.Native.Nat.{_≤_, _-_}
 use Rattle.loops.specs.Loop.{first}
 use Rattle.loops.proofs.Loop.{first-none}
 use Rattle.text.proofs.Names.{kind-found, kind-more, kind-none}
+use Rattle.text.specs.Name.{kindCount}
 use Rattle.text.specs.Key.{isKind, kindKeys}
 use borrow.Author.Needs.{needs}
 use native.Mathlib.Omega.{arith}
@@ -10,10 +11,10 @@ use Rattle.text.proofs.name.kind_place.Statement.{statement}
 use Rattle.text.proofs.name.kind_place.Tie as tie
 
 abbrev Inv-loop : tie.InvT-loop
-Inv-loop k i₀ i = (i ≤ 23) × (i ≡ first i (isKind k))
+Inv-loop k i₀ i = (i ≤ kindCount) × (i ≡ first i (isKind k))
 
 abbrev μ-loop : tie.MeasureT-loop
-μ-loop k i₀ i = 23 - i
+μ-loop k i₀ i = kindCount - i
 
 loop-holds : tie.Need-loop-holds Inv-loop μ-loop
 loop-holds c = (omega arith, first-none (isKind _))

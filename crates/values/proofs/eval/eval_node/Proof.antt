@@ -50,14 +50,17 @@ slots-of-requires c κs = let p = c .before .before .before .before .before .bef
 place-at-requires : tie.Need-place-at-requires
 place-at-requires c κs = search needs
 
+width-at-requires : tie.Need-width-at-requires
+width-at-requires c κs = search needs
+
 fill-requires : tie.Need-fill-requires
-fill-requires c κs = let p = c .before .before .before .before .before .before .before .before .before .before .before .before .before .before .before .pre in let h = p .1 .0 in let q = operands-in _ _ _ _ (p .0 .fine) h (c .before .before .before .before .before .before .before .before .before .before .node-at .ensures) in ((p .0 .fine .short, q .3, near _ _ _ (p .0 .fine) (p .0 .offsets) _ (omega arith), near _ _ _ (p .0 .fine) (p .0 .offsets) _ (omega arith), near _ _ _ (p .0 .fine) (p .0 .offsets) _ (omega arith), c .before .before .before .slots-of .ensures .1), (near _ _ _ (p .0 .fine) (p .0 .offsets) _ (omega arith), fill-room _ _ _ _ _ _ _ (p .0) h (c .before .before .before .before .before .before .before .before .before .before .node-at .ensures) (c .before .before .before .slots-of .ensures .0) (p .1 .1)))
+fill-requires c κs = let p = c .before .before .before .before .before .before .before .before .before .before .before .before .before .before .before .before .pre in let h = p .1 .0 in let q = operands-in _ _ _ _ (p .0 .fine) h (c .before .before .before .before .before .before .before .before .before .before .before .node-at .ensures) in ((p .0 .fine .short, q .3, rw (c .before .width-at .ensures) (p .0 .fine .narrow _), near _ _ _ (p .0 .fine) (p .0 .offsets) _ (omega arith), near _ _ _ (p .0 .fine) (p .0 .offsets) _ (omega arith), near _ _ _ (p .0 .fine) (p .0 .offsets) _ (omega arith), c .before .before .before .before .slots-of .ensures .1), (near _ _ _ (p .0 .fine) (p .0 .offsets) _ (omega arith), fill-room _ _ _ _ _ _ _ (p .0) h (c .before .before .before .before .before .before .before .before .before .before .before .node-at .ensures) (c .before .before .before .before .slots-of .ensures .0) (p .1 .1)))
 
 same-length : tie.Need-same-length
 same-length c = search needs
 
 returns-2 : tie.Need-returns-2
-returns-2 c = let p = c .before .before .before .before .before .before .before .before .before .before .before .before .before .before .before .before .before .before .pre in node-filled _ _ _ _ _ _ (c .before .before .before .before .before .before .before .before .before .before .before .before .before .node-at .ensures) (c .before .before .before .before .before .before .before .before .before .before .before .before .is-given .ensures) (p .0 .fine) _ (p .0 .offsets) (p .1 .0) _ _ _ (c .before .before .before .before .before .before .before .before .before .before .before .if1 .left) (c .before .before .before .before .place-at .ensures) (c .before .before .before .before .before .before .slots-of .ensures .0) (c .before .before .fill .ensures)
+returns-2 c = let p = c .before .before .before .before .before .before .before .before .before .before .before .before .before .before .before .before .before .before .before .pre in node-filled _ _ _ _ _ _ (c .before .before .before .before .before .before .before .before .before .before .before .before .before .before .node-at .ensures) (c .before .before .before .before .before .before .before .before .before .before .before .before .before .is-given .ensures) (p .0 .fine) _ (p .0 .offsets) (p .1 .0) _ _ _ _ (c .before .before .before .before .before .before .before .before .before .before .before .before .if1 .left) (c .before .before .before .before .width-at .ensures) (c .before .before .before .before .before .place-at .ensures) (c .before .before .before .before .before .before .before .slots-of .ensures .0) (c .before .before .fill .ensures)
 
 pub eval-node-spec : {M : Type 1} → statement M
 eval-node-spec =
@@ -78,6 +81,7 @@ eval-node-spec =
     shared-slice-read-c
     slots-of-requires
     place-at-requires
+    width-at-requires
     fill-requires
     same-length
     returns-2)

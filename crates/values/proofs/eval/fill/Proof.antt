@@ -10,10 +10,10 @@ use Rattle.values.proofs.eval.fill.Statement.{statement}
 use Rattle.values.proofs.eval.fill.Tie as tie
 
 abbrev Inv-loop : tie.InvT-loop
-Inv-loop addrs node o a b c p m values₀ j₀ values j = (j ≤ m) × (length values ≡ length values₀) × (values ≡ iter j (slotStep addrs node o a b c p) values₀)
+Inv-loop addrs node v o a b c p m values₀ j₀ values j = (j ≤ m) × (length values ≡ length values₀) × (values ≡ iter j (slotStep addrs node v o a b c p) values₀)
 
 abbrev μ-loop : tie.MeasureT-loop
-μ-loop addrs node o a b c p m values₀ j₀ values j = m - j
+μ-loop addrs node v o a b c p m values₀ j₀ values j = m - j
 
 loop-holds : tie.Need-loop-holds Inv-loop μ-loop
 loop-holds c = search (needs, loop-none)

@@ -87,9 +87,16 @@ returns-13 : tie.Need-returns-13
 unfolding wordValue
 returns-13 c = search (needs, eq-eqb, ne-eqb, pick-true, pick-false)
 
+sext-word-requires : tie.Need-sext-word-requires
+sext-word-requires c κs = search needs
+
 returns-14 : tie.Need-returns-14
 unfolding wordValue
 returns-14 c = search (needs, eq-eqb, ne-eqb, pick-true, pick-false)
+
+returns-15 : tie.Need-returns-15
+unfolding wordValue
+returns-15 c = search (needs, eq-eqb, ne-eqb, pick-true, pick-false)
 
 pub word-value-spec : {M : Type 1} → statement M
 word-value-spec =
@@ -118,4 +125,6 @@ word-value-spec =
     returns-12
     srl-word-requires
     returns-13
-    returns-14)
+    sext-word-requires
+    returns-14
+    returns-15)

@@ -1,4 +1,4 @@
-use Rattle.words.specs.Num.{blank}
+use Rattle.words.specs.Num.{filled}
 use native.Mathlib.Omega.{arith}
 use Rattle.words.proofs.Paths.{joins-and, eq-room, eq-path}
 use borrow.Author.Needs.{needs}
@@ -19,14 +19,14 @@ slice-aggregate-join-all : tie.Need-slice-aggregate-join-all
 slice-aggregate-join-all c = search needs
 
 join-all-requires : tie.Need-join-all-requires
-unfolding blank
+unfolding filled
 join-all-requires c κs = (joins-and, (omega (arith, eq-room _ _ _ _ _ _ _ (c .before .before .before .before .before .before .before .before .before .before .before .args .w) (c .before .before .before .before .before .each-bit .ensures)), omega arith))
 
 same-length : tie.Need-same-length
 same-length c = search needs
 
 returns : tie.Need-returns
-unfolding blank
+unfolding filled
 returns c = eq-path _ _ _ _ _ _ _ (c .before .before .before .before .before .before .before .before .before .before .before .before .before .before .args .w) (c .before .before .before .before .before .before .before .before .each-bit .ensures) _ _ _ (c .before .before .join-all .ensures)
 
 pub eq-words-spec : {M : Type 1} → statement M

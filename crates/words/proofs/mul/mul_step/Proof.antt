@@ -1,4 +1,4 @@
-use Rattle.words.specs.Num.{blank}
+use Rattle.words.specs.Num.{filled}
 use native.Mathlib.Omega.{arith}
 use Rattle.words.proofs.Paths.{mul-room, mul-path}
 use Rattle.words.proofs.MulLaws.{row-cost}
@@ -31,7 +31,7 @@ slice-aggregate-add-onto : tie.Need-slice-aggregate-add-onto
 slice-aggregate-add-onto c = search needs
 
 add-onto-requires : tie.Need-add-onto-requires
-unfolding blank
+unfolding filled
 add-onto-requires c κs = omega (arith, mul-room (c .before .before .before .before .before .before .before .before .before .before .before .before .before .before .args .w) (c .before .before .before .before .before .before .before .before .before .before .before .before .before .before .args .left .now) (c .before .before .before .before .before .before .before .before .before .before .before .before .before .before .args .right .now) _ _ _ (c .before .before .before .before .before .before .before .before .before .before .before .before .before .before .args .sum .now) _ _ (c .before .before .before .before .before .before .before .before .before .before .before .before .before .before .args .i) (c .before .before .before .before .before .before .each-bit .ensures))
 
 same-length : tie.Need-same-length
@@ -41,7 +41,7 @@ same-length-2 : tie.Need-same-length-2
 same-length-2 c = search needs
 
 returns : tie.Need-returns
-unfolding blank
+unfolding filled
 returns c = mul-path (c .before .before .before .before .before .before .before .before .before .before .before .before .before .before .before .before .before .before .before .before .args .w) (c .before .before .before .before .before .before .before .before .before .before .before .before .before .before .before .before .before .before .before .before .args .left .now) (c .before .before .before .before .before .before .before .before .before .before .before .before .before .before .before .before .before .before .before .before .args .right .now) _ _ _ (c .before .before .before .before .before .before .before .before .before .before .before .before .before .before .before .before .before .before .before .before .args .sum .now) _ _ (c .before .before .before .before .before .before .before .before .before .before .before .before .before .before .before .before .before .before .before .before .args .i) (c .before .before .before .before .before .before .before .before .before .before .before .before .each-bit .ensures) _ _ _ _ (c .before .before .before .before .before .add-onto .ensures)
 
 pub mul-step-spec : {M : Type 1} → statement M

@@ -1,4 +1,4 @@
-use Rattle.words.specs.Num.{blank}
+use Rattle.words.specs.Num.{filled}
 use native.Mathlib.Omega.{arith}
 use Rattle.words.proofs.Paths.{sub-room, sub-path}
 use borrow.Author.Needs.{needs}
@@ -19,7 +19,7 @@ slice-aggregate-add-words : tie.Need-slice-aggregate-add-words
 slice-aggregate-add-words c = search needs
 
 add-words-requires : tie.Need-add-words-requires
-unfolding blank
+unfolding filled
 add-words-requires c κs = omega (arith, sub-room (c .before .before .before .before .before .before .before .before .before .before .before .before .before .args .left .now) (c .before .before .before .before .before .before .before .before .before .before .before .before .before .args .right .now) _ _ _ _ _ (c .before .before .before .before .before .before .before .before .before .before .before .before .before .args .w) (c .before .before .before .before .before .before .each-bit .ensures) (c .before .before .before .before .before .before .before .before .before .before .before .before .before .args .out .now) (c .before .before .before .before .before .before .before .before .before .before .before .before .before .pre .1 .0) (c .before .before .before .before .before .before .before .before .before .before .before .before .before .pre .1 .3))
 
 same-length : tie.Need-same-length
@@ -29,7 +29,7 @@ same-length-2 : tie.Need-same-length-2
 same-length-2 c = search needs
 
 returns : tie.Need-returns
-unfolding blank
+unfolding filled
 returns c = sub-path (c .before .before .before .before .before .before .before .before .before .before .before .before .before .before .before .before .before .before .args .left .now) (c .before .before .before .before .before .before .before .before .before .before .before .before .before .before .before .before .before .before .args .right .now) _ _ _ _ _ (c .before .before .before .before .before .before .before .before .before .before .before .before .before .before .before .before .before .before .args .w) (c .before .before .before .before .before .before .before .before .before .before .before .each-bit .ensures) _ _ _ _ _ (c .before .before .before .before .add-words .ensures)
 
 pub sub-words-spec : {M : Type 1} → statement M

@@ -1,4 +1,4 @@
-use Rattle.words.specs.Num.{blank}
+use Rattle.words.specs.Num.{filled}
 use native.Mathlib.Omega.{arith}
 use Rattle.words.proofs.Paths.{ult-path, ult-room, ult-long}
 use borrow.Author.Needs.{needs}
@@ -34,7 +34,7 @@ slice-aggregate-sub-words-3 : tie.Need-slice-aggregate-sub-words-3
 slice-aggregate-sub-words-3 c = search needs
 
 sub-words-requires : tie.Need-sub-words-requires
-unfolding blank
+unfolding filled
 sub-words-requires c κs = omega (arith, ult-room (c .before .before .before .before .before .before .before .before .before .before .before .before .before .args .left .now) (c .before .before .before .before .before .before .before .before .before .before .before .before .before .args .right .now) _ _ (c .before .before .before .before .before .before .before .before .before .before .before .before .before .args .w) (c .before .before .before .before .before .before .before .before .before .before .before .before .before .pre .1 .0) (c .before .before .before .before .before .before .before .before .put-bits .ensures) (c .before .before .before .before .before .put-bits2 .ensures), ult-long (c .before .before .before .before .before .before .before .before .before .before .before .before .before .args .left .now) (c .before .before .before .before .before .before .before .before .before .before .before .before .before .args .right .now) _ _ (c .before .before .before .before .before .before .before .before .before .before .before .before .before .args .w) (c .before .before .before .before .before .before .before .before .before .before .before .before .before .pre .1 .0) (c .before .before .before .before .before .before .before .before .put-bits .ensures) (c .before .before .before .before .before .put-bits2 .ensures))
 
 mul-t22 : tie.Need-mul-t22
@@ -47,7 +47,7 @@ same-length : tie.Need-same-length
 same-length c = search needs
 
 returns : tie.Need-returns
-unfolding blank
+unfolding filled
 returns c = ult-path (c .before .before .before .before .before .before .before .before .before .before .before .before .before .before .before .before .before .before .args .left .now) (c .before .before .before .before .before .before .before .before .before .before .before .before .before .before .before .before .before .before .args .right .now) _ _ _ _ _ _ _ (c .before .before .before .before .before .before .before .before .before .before .before .before .before .before .before .before .before .before .args .w) _ (c .before .before .before .before .before .before .before .before .before .before .before .before .before .put-bits .ensures) (c .before .before .before .before .before .before .before .before .before .before .put-bits2 .ensures) (c .before .before .before .before .sub-words .ensures)
 
 pub ult-words-spec : {M : Type 1} → statement M
