@@ -36,7 +36,7 @@ enum ramstitcher_refusal {
     RAMSTITCHER_GATE_ROOM = 7,
     RAMSTITCHER_BIT_ROOM = 8,
     RAMSTITCHER_CONSTRAINT_ROOM = 9,
-    RAMSTITCHER_ZERO_DIVISOR = 10,
+    /* 10 is not used */
     RAMSTITCHER_GATE_LIST = 11,
     RAMSTITCHER_VALUE_ROOM = 12,
     RAMSTITCHER_INPUT = 13,
@@ -51,8 +51,7 @@ uint64_t ramstitcher_room(const uint64_t *table, size_t table_length,
                           size_t *node, uint64_t *gates, uint64_t *constraints, uint64_t *map);
 
 /* Lowers a table. On success the first gate_count records of gates, the first constraint_count of constraints and the places of all nodes in map
- * are written; both counts are 0 beside a refusal. Refusal 10 leaves the three buffers all zero, every other refusal leaves them as they were.
- * node gets the node beside the refusal, or 0. */
+ * are written; both counts are 0 beside a refusal, which leaves the three buffers as they were. node gets the node beside the refusal, or 0. */
 uint64_t ramstitcher_lower(const uint64_t *table, size_t table_length,
                            const uint64_t *addresses, size_t addresses_length,
                            uint64_t word,

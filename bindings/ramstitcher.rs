@@ -12,7 +12,7 @@ pub const CONSTRAINT: usize = 2;
 /// What the map holds for the bits of a node that was not reached.
 pub const UNREACHED: u32 = u32::MAX;
 
-/// A number of the refusal sheet, 1 to 14, and the node or gate beside it (0 for none).
+/// A number of the refusal sheet, 1 to 14 without 10, and the node or gate beside it (0 for none).
 #[derive(Clone, Copy, Debug, PartialEq, Eq)]
 pub struct Refusal {
     pub number: u64,
@@ -112,7 +112,7 @@ pub fn room(table: &[u64], addresses: &[u64], word: u64) -> Result<Room, Refusal
     answer(number, node).map(|()| Room { gates: gates as usize, constraints: constraints as usize, map: map as usize })
 }
 
-/// Lowers a table into the lent buffers. Refusal 10 leaves them all zero, every other refusal as they were.
+/// Lowers a table into the lent buffers. A refusal leaves them as they were.
 pub fn lower(
     table: &[u64],
     addresses: &[u64],

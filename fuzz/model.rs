@@ -185,7 +185,7 @@ impl Table<'_> {
                 ITE => 3 * self.bits(v) as u64,
                 READ => n * (4 * w - 1),
                 WRITE => n * (5 * w - 1),
-                DIVU | REM => 2 * v * v + 13 * v + 1 + v * (v - 1) / 2,
+                DIVU | REM => 2 * v * v + 18 * v + 1 + v * (v - 1) / 2,
                 SLL | SRL => 3 * v * stages(v) + 2 * v - stages(v) - 1,
                 _ => 0,
             };
@@ -438,12 +438,29 @@ impl Net {
         self.constraints.push([gate, value]);
     }
 
-    /// Quotient and remainder.
-    fn divide(&mut self, node: u32, num: &[u32], den: &[u32]) -> (Vec<u32>, Vec<u32>) {
+    /// The quotient, or the remainder.
+    fn divide(&mut self, node: u32, quotient: bool, num: &[u32], den: &[u32]) -> Vec<u32> {
         let w = num.len();
+        let by_zero = if quotient { vec![1; w] } else { num.to_vec() };
         if let (Some(x), Some(y)) = (number(num), number(den)) {
-            return (digits(x / y, w), digits(x % y, w));
+            return match y {
+                0 => by_zero,
+                _ => digits(if quotient { x / y } else { x % y }, w),
+            };
         }
+        let zero = self.eq(den, &vec![0; w]);
+        if zero == 1 {
+            return by_zero;
+        }
+        let mut den = den.to_vec();
+        den[0] = self.or(den[0], zero);
+        let (quot, rem) = self.parts(node, num, &den);
+        self.choices(zero, &by_zero, if quotient { &quot } else { &rem })
+    }
+
+    /// Quotient and remainder by a divisor that is not zero.
+    fn parts(&mut self, node: u32, num: &[u32], den: &[u32]) -> (Vec<u32>, Vec<u32>) {
+        let w = num.len();
         let (mut quot, mut rem) = (Vec::new(), Vec::new());
         for bit in 0..w as u32 {
             quot.push(self.make(12, node, bit, 0));
@@ -483,26 +500,22 @@ impl Lowering<'_> {
         self.bits[k as usize].as_ref().unwrap()
     }
 
-    /// Visits node k; the node of refusal 10 where it stops.
-    fn visit(&mut self, k: u64) -> Result<(), usize> {
+    fn visit(&mut self, k: u64) {
         if k == 0 || self.bits[k as usize].is_some() {
-            return Ok(());
+            return;
         }
         let d = self.t.node(k as usize);
-        self.visit(d.a)?;
+        self.visit(d.a);
         if d.kind == ITE && known(self.of(d.a)[0]) {
             let side = if self.of(d.a)[0] == 1 { d.b } else { d.c };
-            self.visit(side)?;
+            self.visit(side);
             self.bits[k as usize] = Some(self.of(side).to_vec());
-            return Ok(());
+            return;
         }
-        self.visit(d.b)?;
-        self.visit(d.c)?;
+        self.visit(d.b);
+        self.visit(d.c);
         let word = |x: u64| if x == 0 { Vec::new() } else { self.of(x).to_vec() };
         let (x, y, z) = (word(d.a), word(d.b), word(d.c));
-        if matches!(d.kind, DIVU | REM) && number(&y) == Some(0) {
-            return Err(k as usize);
-        }
         let (w, n) = (self.t.word as usize, self.t.addresses.len());
         let net = &mut self.net;
         let made = match d.kind {
@@ -527,8 +540,7 @@ impl Lowering<'_> {
             SUB => net.sub(&x, &y),
             ULT => vec![net.ult(&x, &y)],
             MUL => net.mul(&x, &y),
-            DIVU => net.divide(k as u32, &x, &y).0,
-            REM => net.divide(k as u32, &x, &y).1,
+            DIVU | REM => net.divide(k as u32, d.kind == DIVU, &x, &y),
             READ => match number(&y) {
                 Some(a) => match self.t.addresses.iter().position(|&l| l == a) {
                     Some(i) => x[i * w..(i + 1) * w].to_vec(),
@@ -567,7 +579,6 @@ impl Lowering<'_> {
             }
         };
         self.bits[k as usize] = Some(made);
-        Ok(())
     }
 }
 
@@ -590,12 +601,7 @@ pub fn lower(t: Table, gates: &mut [u32], constraints: &mut [u32], map: &mut [u3
     let mut run = Lowering { t, net, bits: vec![None; t.nodes() + 1] };
     for k in 1..=t.nodes() {
         if t.node(k).kind == BAD {
-            if let Err(node) = run.visit(k as u64) {
-                gates.fill(0);
-                constraints.fill(0);
-                map.fill(0);
-                return ((10, node), 0, 0);
-            }
+            run.visit(k as u64);
         }
     }
     let (made, held) = (run.net.gates.concat(), run.net.constraints.concat());

@@ -84,7 +84,7 @@ fn reached(ours: &mut Ours) -> bool {
 
 fn zero_by_zero(ours: &mut Ours) -> bool {
     let t = table(&[(CONST, 1, [0; 3], 0), (DIVU, 1, [1, 1, 0], 0), (BAD, 1, [2, 0, 0], 0)]);
-    stops(&t, "divide by zero") && refused(&t, 10, 2, ours)
+    stops(&t, "divide by zero") && value(&t, &zeros(&t), 2, ours) == Some(1)
 }
 
 /// Of a table with one division, its words 1 bit wide and node 1 its one input: no quotient and remainder meet the original's constraints.
@@ -96,10 +96,19 @@ fn never_met(table: &Table) -> bool {
     })
 }
 
-/// With an unknown dividend the original goes on; no quotient and remainder meet its constraints.
+/// With an unknown dividend the original goes on, and no quotient and remainder meet its constraints. Here there is none, and the answer is all ones.
 fn unknown_by_zero(ours: &mut Ours) -> bool {
     let t = table(&[(INPUT, 1, [0; 3], 0), (CONST, 1, [0; 3], 0), (DIVU, 1, [1, 2, 0], 0), (BAD, 1, [3, 0, 0], 0)]);
-    matches!(theirs::lower(&t, &[zeros(&t)]), Theirs::Divides) && never_met(&t) && refused(&t, 10, 3, ours)
+    matches!(theirs::lower(&t, &[zeros(&t)]), Theirs::Divides) && never_met(&t) && value(&t, &zeros(&t), 3, ours) == Some(1)
+}
+
+/// Where an unknown divisor is zero, no quotient and remainder meet the original's constraints, and exactly one meets ours.
+fn by_unknown_zero(ours: &mut Ours) -> bool {
+    let t = table(&[(INPUT, 1, [0; 3], 0), (DIVU, 1, [1, 1, 0], 0), (BAD, 1, [2, 0, 0], 0)]);
+    let given = zeros(&t);
+    let there = (0..4).filter(|i| theirs::admits(&t, &given, i & 1, i >> 1)).count();
+    let here = (0..4).filter(|i| ours.admits(&t, &given, i & 1, i >> 1) == Ok(true)).count();
+    (there, here) == (0, 1)
 }
 
 /// 1 by 2 at width 8: 128 times 2 and 1 more is 257, of which the original's rows keep 1.
@@ -183,7 +192,7 @@ type Check = fn(&mut Ours) -> bool;
 
 /// Says how many are as they are said to be, and which are not.
 pub fn run(ours: &mut Ours) -> bool {
-    let all: [(&str, Check); 16] = [
+    let all: [(&str, Check); 17] = [
         ("a memory", memory),
         ("a sub at width 1", narrow_sub),
         ("known bits of ult", known_by_ult),
@@ -191,6 +200,7 @@ pub fn run(ours: &mut Ours) -> bool {
         ("reached nodes", reached),
         ("zero by a known zero", zero_by_zero),
         ("an unknown word by a known zero", unknown_by_zero),
+        ("an unknown divisor that is zero", by_unknown_zero),
         ("quotient bits dropped", quotient_dropped),
         ("an or", or),
         ("known bits of srl", known_by_srl),

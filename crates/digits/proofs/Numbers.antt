@@ -4,12 +4,12 @@ use mathlib.Core.Bool.{Bool, true, false}
 use Prim.Native.Nat.{ℕ, zero, suc, _+_, _-_, _*_, _/_, _%_, _^_, _≤_, _<_}
 use native.Mathlib.Omega.{arith}
 use native.Mathlib.Decide.{decLt}
-use native.Mathlib.Nat.{pow-suc, div-add-mod, div-div-eq-div-mul, div-one, div-eq-of-lt, mod-lt, mod-eq-of-lt, add-mul-mod-self-left}
+use native.Mathlib.Nat.{pow-suc, div-add-mod, div-div-eq-div-mul, div-one, div-eq-of-lt, mod-lt, mod-eq-of-lt, add-mul-mod-self-left, mul-add-div-right, mul-add-mod-self-right}
 use lib.Dec.{eqb, leb}
-use borrow.Author.Tests.{leb-true, leb-false, le-leb}
+use borrow.Author.Tests.{leb-true, leb-false}
 use Rattle.loops.specs.Loop.{bit, first}
 use Rattle.loops.proofs.Loop.{first-true, first-below, first-le}
-use Rattle.digits.specs.Digits.{digit, powersBelow, number}
+use Rattle.digits.specs.Digits.{digit, powersBelow, number, Parts}
 
 pub pow-pos : (i : ℕ) → 0 < 2 ^ i
 pow-pos zero = omega arith
@@ -104,3 +104,12 @@ module _ (w : ℕ) where
   pub powers-enough : 1 ≤ w → w ≤ 2 ^ powersBelow w
   unfolding powersBelow
   powers-enough h = leb-true w (2 ^ first w (λ j. leb w (2 ^ j))) (first-true (λ j. leb w (2 ^ j)) w (powers-less h))
+
+-- one quotient and one remainder, and none by 0
+pub parts-one : (q r n d : ℕ) → Parts q r n d → (q ≡ n / d) × (r ≡ n % d) × (0 < d)
+parts-one q r n d h =
+    let pos : 0 < d = omega arith in (
+      rw (← h .0, mul-add-div-right pos q r, div-eq-of-lt (h .1)) (omega arith),
+      rw (← h .0, mul-add-mod-self-right q d r, mod-eq-of-lt (h .1)),
+      pos,
+    )

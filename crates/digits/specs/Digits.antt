@@ -1,6 +1,7 @@
 -- Binary digits, lowest first, and the number that a word's bits say.
+use mathlib.Core.Path.{_≡_}
 use mathlib.Core.List.{List}
-use mathlib.Core.Bool.{Bool, true, false, not}
+use mathlib.Core.Bool.{Bool, not}
 use Prim.Native.Nat.{ℕ, zero, suc, _+_, _*_, _/_, _%_, _^_, _<_}
 use lib.Dec.{eqb, leb}
 use lib.ListN.{getD, set}
@@ -19,6 +20,10 @@ powersBelow w = first w (λ j. leb w (2 ^ j))
 unfoldable pub number : (ℕ → Bool) → ℕ → ℕ
 number v zero = 0
 number v (suc i) = number v i + 2 ^ i * bit (v i)
+
+-- q and r are the quotient and the remainder of n by d
+abbrev pub Parts : ℕ → ℕ → ℕ → ℕ → Type 0
+Parts q r n d = (q * d + r ≡ n) × (r < d)
 
 -- the first w digits of a, as known bits, into a list
 unfoldable pub digitStep : ℕ → ℕ → List ℕ → List ℕ

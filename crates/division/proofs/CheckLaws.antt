@@ -3,9 +3,9 @@ use mathlib.Core.Path.{_≡_, refl, ap, sym, _∙_}
 use mathlib.Core.List.{List}
 use mathlib.Core.Logic.{_↔_}
 use mathlib.Core.Bool.{Bool, true, false, not}
-use Prim.Native.Nat.{ℕ, zero, suc, _+_, _*_, _-_, _^_, _/_, _%_, _≤_, _<_}
+use Prim.Native.Nat.{ℕ, zero, suc, _+_, _*_, _-_, _^_, _/_, _≤_, _<_}
 use native.Mathlib.Omega.{arith}
-use native.Mathlib.Nat.{zero-add, mul-add-div-right, mul-add-mod-self-right, div-eq-of-lt, mod-eq-of-lt}
+use native.Mathlib.Nat.{zero-add}
 use lib.Dec.{ltb}
 use lib.ListN.{getD}
 use borrow.Author.Tests.{ltb-true, lt-ltb}
@@ -221,16 +221,3 @@ module _ (w : ℕ) (quot rem n d : List ℕ) (s : Book) (small : w ≤ 64) where
             (rows .within (gates.room-back (p .net) (u .net) _ (from-p .grows) rm) (room-back (p .cons) y (1 + w + 1) (law .more) room) bq bd f)
             (law .within room (u .net .n) ((omega (arith, forC rc i f .1, from-c .grows .from), below-more (x .net .n) (u .net .n) (x .out) w (ul .ext .grows .from) (forX rx i f .1)), forU rm i f .1));
       }
-
--- where the constraints hold, the quotient and the remainder are the dividend's by the divisor, which is not zero
-pub divides-one : (w : ℕ) (q r n d : List ℕ) (e : Assign) → Divides w q r n d e → (num e q w ≡ num e n w / num e d w) × (num e r w ≡ num e n w % num e d w) × (0 < num e d w)
-divides-one w q r n d e h =
-    let pos : 0 < num e d w = omega arith in (
-      rw (← h .0, mul-add-div-right pos (num e q w) (num e r w), div-eq-of-lt (h .1)) (omega arith),
-      rw (← h .0, mul-add-mod-self-right (num e q w) (num e d w) (num e r w), mod-eq-of-lt (h .1)),
-      pos,
-    )
-
--- none for divisor zero
-pub divides-none : (w : ℕ) (q r n d : List ℕ) (e : Assign) → num e d w ≡ 0 → Divides w q r n d e → ⊥
-divides-none w q r n d e z h = omega arith

@@ -2,6 +2,7 @@ pub mod ConstraintLaws
 pub mod RowLaws
 pub mod CheckLaws
 pub mod PairLaws
+pub mod ZeroLaws
 pub mod DivideLaws
 pub mod SolveLaws
 pub mod KnownLaws

@@ -4,17 +4,21 @@ use mathlib.Core.List.{List}
 use mathlib.Core.Bool.{Bool, true, false, _&&_}
 use Prim.Native.Nat.{ℕ, _-_, _+_, _*_, _/_, _≤_, _<_}
 use native.Mathlib.Omega.{arith}
+use lib.Dec.{eqb}
 use lib.ListN.{length, getD, set}
+use borrow.Author.Tests.{eq-eqb, ne-eqb}
 use Rattle.loops.specs.Loop.{pick, iter, sum}
 use Rattle.loops.proofs.Loop.{pick-true, pick-false, both, loop-done}
 use Rattle.netlist.specs.Net.{Net}
 use Rattle.gates.specs.declared.made.At.{At}
 use Rattle.gates.specs.Made.{MadeBit, netOf, madeOf, added, gateQuotient, gateRemainder}
+use Rattle.gates.specs.Fold.{orBit}
 use Rattle.digits.specs.Digits.{Below, allKnown, knownNumber, putDigits}
 use Rattle.digits.proofs.Words.{all-true}
-use Rattle.words.specs.declared.each.Bitwise.the-variants.{Xnor, AndWith}
-use Rattle.words.specs.Num.{blank}
-use Rattle.words.specs.Each.{Word, wordOf, eachBit, eachCost, putBits}
+use Rattle.words.specs.declared.each.Bitwise.the-variants.{Xnor, AndWith, Choose}
+use Rattle.words.specs.Num.{filled, blank}
+use Rattle.words.specs.Each.{Word, wordOf, placed, eachBit, eachCost, putBits}
+use Rattle.words.specs.Eq.{eqWords}
 use Rattle.words.specs.Add.{Chain, chainOf, addOnto, chainCost}
 use Rattle.words.specs.Sub.{ultWords}
 use Rattle.words.specs.Mul.{rowOf, mulCost}
@@ -29,11 +33,14 @@ use Rattle.division.specs.Check.{Book, bookOf, sumWords, checkWords, sum
 use Rattle.division.specs.Pair.{Pair, pairOf, pairStep, pairWords}
 use Rattle.division.specs.Known.{answerOf, knownWord}
 use Rattle.values.specs.Value.{divWord, remWord}
-use Rattle.division.specs.Divide.{divWords, freeWord, divideWords}
+use Rattle.division.specs.Zero.{zeroBit, raised, zeroWord, chosen, RaisedLaw}
+use Rattle.division.specs.Divide.{Divided, dividedOf, divWords, freeWord, byZero, divideWords, divCost}
 use Rattle.division.proofs.ConstraintLaws.{each-more}
 use Rattle.division.proofs.RowLaws.{rows-law}
 use Rattle.division.proofs.CheckLaws.{cost-all, count-all, xnors-cost, sum-upto, sum-more}
 use Rattle.division.proofs.PairLaws.{pair-law}
+use Rattle.division.proofs.ZeroLaws.{zero-law, raised-law}
+use Rattle.division.proofs.DivideLaws.{div-law}
 
 -- constraints
 pub put-path : (l : List ℕ) (m g v : ℕ) → consOf (set (set l (2 * m) g) (2 * m + 1) v) (m + 1) ≡ constrain (consOf l m) g v
@@ -75,8 +82,10 @@ pair-path g g₁ g₂ quot rem n n₁ n₂ node i b₁ b₂ e f =
 pub pair-count : (node : ℕ) (s : Pair) (g quot rem : List ℕ) (n : At) (i : ℕ) → pairOf g n quot rem ≡ pairWords i node s → i ≤ length (s .quot) → i ≤ length (s .rem) → n .n ≡ s .net .n + 2 * i
 pair-count node s g quot rem n i e hq hr = ap (λ (x : Pair). x .net .n) e ∙ pair-law node s i hq hr .count
 
-pub pair-most : (node w : ℕ) (g : List ℕ) (n : At) (g₁ quot rem : List ℕ) (n₁ : At) → w ≤ 64 → pairOf g₁ n₁ quot rem ≡ pairWords w node (pairOf g n blank blank) → n₁ .n ≡ n .n + 2 * w
-pair-most node w g n g₁ quot rem n₁ h e = pair-count node (pairOf g n blank blank) g₁ quot rem n₁ w e (omega (arith, blank-long)) (omega (arith, blank-long))
+pub pair-most : (node w : ℕ) (g q r : List ℕ) (n : At) (g₁ quot rem : List ℕ) (n₁ : At) → w ≤ 64 → q ≡ blank → r ≡ blank → pairOf g₁ n₁ quot rem ≡ pairWords w node (pairOf g n q r)
+    → n₁ .n ≡ n .n + 2 * w
+pair-most node w g q r n g₁ quot rem n₁ h eq er e =
+    pair-count node (pairOf g n q r) g₁ quot rem n₁ w e (omega (arith, blank-long, ap (λ (x : List ℕ). length x) eq)) (omega (arith, blank-long, ap (λ (x : List ℕ). length x) er))
 
 -- one row
 module _ (w : ℕ) (quot den g : List ℕ) (n : At) (i : ℕ) (g₁ kept : List ℕ) (n₁ : At) (e₁ : wordOf g₁ n₁ kept ≡ rowOf quot (getD den i 0) (w - i) (netOf g n)) where
@@ -203,25 +212,88 @@ module _ (w : ℕ) (quot rem num den g l : List ℕ) (n : At) (m : ℕ) (g₁ l�
         fromX : Cons → Word → Book
         fromX k x = last (constrainEach (x .out) 1 w k) (ultWords w rem den (x .net))
 
--- both words, and the one that is asked for
-module _ (q : Bool) (quot rem out out′ : List ℕ) (w : ℕ) where
-  pub asked-quot : q ≡ true → out′ ≡ putBits 0 quot w out → out′ ≡ putBits 0 (pick q quot rem) w out
-  asked-quot h e = rw (pick-true q quot rem h) e
-
-  pub asked-rem : q ≡ false → out′ ≡ putBits 0 rem w out → out′ ≡ putBits 0 (pick q quot rem) w out
-  asked-rem h e = rw (pick-false q quot rem h) e
-
-pub free-path : (q : Bool) (w node : ℕ) (num den g l out : List ℕ) (n : At) (m : ℕ) (g₁ q₁ r₁ : List ℕ) (n₁ : At) (g₂ l₂ : List ℕ) (n₂ : At) (m₂ : ℕ) (out₃ : List ℕ)
-    → pairOf g₁ n₁ q₁ r₁ ≡ pairWords w node (pairOf g n blank blank) → bookOf g₂ n₂ l₂ m₂ ≡ checkWords w q₁ r₁ num den (bookOf g₁ n₁ l m)
-    → out₃ ≡ putBits 0 (pick q q₁ r₁) w out → checkedOf g₂ n₂ l₂ m₂ out₃ ≡ freeWord q w node num den (checkedOf g n l m out)
-unfolding freeWord divWords
-free-path q w node num den g l out n m g₁ q₁ r₁ n₁ g₂ l₂ n₂ m₂ out₃ e₁ e₂ e₃ =
-    ap (λ (o : List ℕ). checkedOf g₂ n₂ l₂ m₂ o) e₃
-    ∙ (ap (λ (b : Book). fin b q₁ r₁) e₂
-    ∙ ap (λ (f : Pair). fin (checkWords w (f .quot) (f .rem) num den (record { net = f .net; cons = consOf l m })) (f .quot) (f .rem)) e₁)
+-- both words
+pub words-path : (w node : ℕ) (num den g l quot rem : List ℕ) (n : At) (m : ℕ) (g₁ q₁ r₁ : List ℕ) (n₁ : At) (g₂ l₂ : List ℕ) (n₂ : At) (m₂ : ℕ) → quot ≡ blank → rem ≡ blank
+    → pairOf g₁ n₁ q₁ r₁ ≡ pairWords w node (pairOf g n quot rem) → bookOf g₂ n₂ l₂ m₂ ≡ checkWords w q₁ r₁ num den (bookOf g₁ n₁ l m)
+    → dividedOf g₂ n₂ l₂ m₂ q₁ r₁ ≡ divWords w node num den (bookOf g n l m)
+unfolding divWords
+words-path w node num den g l quot rem n m g₁ q₁ r₁ n₁ g₂ l₂ n₂ m₂ eq er e₁ e₂ =
+    ap (λ (b : Book). fin b q₁ r₁) e₂
+    ∙ ap (λ (f : Pair). fin (checkWords w (f .quot) (f .rem) num den (record { net = f .net; cons = consOf l m })) (f .quot) (f .rem)) (rw (eq, er) at e₁)
   where
-    fin : Book → List ℕ → List ℕ → Checked
-    fin b x y = record { net = b .net; cons = b .cons; out = putBits 0 (pick q x y) w out }
+    fin : Book → List ℕ → List ℕ → Divided
+    fin b x y = record { book = b; quot = x; rem = y }
+
+-- a divisor that may be zero
+pub zero-path : (w : ℕ) (den : List ℕ) (s : Net) (m : MadeBit) → m ≡ eqWords w den blank s → m ≡ zeroBit w den s
+unfolding zeroBit
+zero-path w den s m e = e
+
+pub raise-path : (w : ℕ) (den : List ℕ) (z : ℕ) (g out out₁ : List ℕ) (n : At) (g₂ : List ℕ) (n₂ : At) (b₂ : ℕ) → out ≡ blank → out₁ ≡ putBits 0 den w out
+    → madeOf g₂ n₂ b₂ ≡ orBit (netOf g n) (getD den 0 0) z → wordOf g₂ n₂ (set out₁ 0 b₂) ≡ raised w den z (netOf g n)
+unfolding raised
+raise-path w den z g out out₁ n g₂ n₂ b₂ e e₁ e₂ =
+    ap (λ (m : MadeBit). placed m 0 out₁) e₂ ∙ ap (λ (o : List ℕ). placed (orBit (netOf g n) (getD den 0 0) z) 0 o) (e₁ ∙ ap (λ (o : List ℕ). putBits 0 den w o) e)
+
+-- the word that is asked for
+module _ (q : Bool) (left right out out′ : List ℕ) (w : ℕ) where
+  pub asked-quot : q ≡ true → out′ ≡ putBits 0 left w out → out′ ≡ putBits 0 (pick q left right) w out
+  asked-quot h e = rw (pick-true q left right h) e
+
+  pub asked-rem : q ≡ false → out′ ≡ putBits 0 right w out → out′ ≡ putBits 0 (pick q left right) w out
+  asked-rem h e = rw (pick-false q left right h) e
+
+module _ (q : Bool) (w z : ℕ) (num quot rem : List ℕ) (s t : Word) where
+  pub choose-quot : q ≡ true → t ≡ eachBit (Choose z) (filled 1) quot w s → t ≡ chosen q w z num quot rem s
+  choose-quot h e = rw (pick-true q (filled 1) num h, pick-true q quot rem h) e
+
+  pub choose-rem : q ≡ false → t ≡ eachBit (Choose z) num rem w s → t ≡ chosen q w z num quot rem s
+  choose-rem h e = rw (pick-false q (filled 1) num h, pick-false q quot rem h) e
+
+-- by gates
+module _ (w : ℕ) (num den g l : List ℕ) (n : At) (m z : ℕ) (g₁ den₁ : List ℕ) (n₁ : At) (big : 1 ≤ w) (small : w ≤ 64) (e₁ : wordOf g₁ n₁ den₁ ≡ raised w den z (netOf g n)) where
+  pub raise-most : (n₁ .n ≤ n .n + 1) × (length g₁ ≡ length g)
+  raise-most =
+      let k : RaisedLaw w den z (netOf g n) (raised w den z (netOf g n)) = raised-law w den z (netOf g n) big (omega arith) in
+      (omega (arith, ap (λ (x : Word). x .net .n) e₁, k .ext .grows .upto), ap (λ (x : Word). length (x .net .gates)) e₁ ∙ k .ext .grows .long)
+
+  module _ (node : ℕ) (g₂ l₂ q₂ r₂ : List ℕ) (n₂ : At) (m₂ : ℕ) (e₂ : dividedOf g₂ n₂ l₂ m₂ q₂ r₂ ≡ divWords w node num den₁ (bookOf g₁ n₁ l m)) where
+    pub words-most : n₂ .n ≤ n .n + (divCost w + 1)
+    words-most = omega (arith, raise-most .0, ap (λ (x : Divided). x .book .net .n) e₂, div-law w node num den₁ (bookOf g₁ n₁ l m) small .grows .upto)
+
+    pub free-path : (q : Bool) (out g₃ out₃ : List ℕ) (n₃ : At) → wordOf g₃ n₃ out₃ ≡ chosen q w z num q₂ r₂ (wordOf g₂ n₂ out)
+        → checkedOf g₃ n₃ l₂ m₂ out₃ ≡ freeWord q w node num den z (checkedOf g n l m out)
+    unfolding freeWord
+    free-path q out g₃ out₃ n₃ e₃ =
+        ap (λ (x : Word). fin x (consOf l₂ m₂)) e₃ ∙ (ap choice e₂ ∙ ap (λ (r : Word). choice (divWords w node num (r .out) (record { net = r .net; cons = consOf l m }))) e₁)
+      where
+        fin : Word → Cons → Checked
+        fin x k = record { net = x .net; cons = k; out = x .out }
+
+        choice : Divided → Checked
+        choice t = fin (chosen q w z num (t .quot) (t .rem) (record { net = t .book .net; out = out })) (t .book .cons)
+
+-- by z
+module _ (q : Bool) (w node : ℕ) (num den g l out : List ℕ) (n : At) (m : ℕ) (g₁ : List ℕ) (n₁ : At) (z : ℕ) (e₁ : madeOf g₁ n₁ z ≡ zeroBit w den (netOf g n)) where
+  pub zero-most : 1 ≤ w → w ≤ 64 → n₁ .n ≤ n .n + (2 * w - 1)
+  zero-most big small = omega (arith, ap (λ (x : MadeBit). x .net .n) e₁, zero-law w den (netOf g n) big (omega arith) .ext .grows .upto)
+
+  by-z : MadeBit → Checked
+  by-z x =
+      pick (eqb (x .bit) 1) (record { net = x .net; cons = consOf l m; out = putBits 0 (zeroWord q num) w out })
+      (freeWord q w node num den (x .bit) (record { net = x .net; cons = consOf l m; out = out }))
+
+  picked : by-z (madeOf g₁ n₁ z) ≡ byZero q w node num den (checkedOf g n l m out)
+  unfolding by-z byZero
+  picked = ap by-z e₁
+
+  pub zero-taken : (out₂ : List ℕ) → z ≡ 1 → out₂ ≡ putBits 0 (zeroWord q num) w out → checkedOf g₁ n₁ l m out₂ ≡ byZero q w node num den (checkedOf g n l m out)
+  unfolding by-z
+  zero-taken out₂ h e = ap (λ (o : List ℕ). checkedOf g₁ n₁ l m o) e ∙ (sym (pick-true (eqb z 1) _ _ (eq-eqb z 1 h)) ∙ picked)
+
+  pub zero-other : (t : Checked) → (z ≡ 1 → ⊥) → t ≡ freeWord q w node num den z (checkedOf g₁ n₁ l m out) → t ≡ byZero q w node num den (checkedOf g n l m out)
+  unfolding by-z
+  zero-other t h e = e ∙ (sym (pick-false (eqb z 1) _ _ (ne-eqb z 1 h)) ∙ picked)
 
 module _ (w : ℕ) (num den : List ℕ) (kn kd : Bool) (ln : length num ≡ w) (ld : length den ≡ w) (en : kn ≡ allKnown (length num) num) (ed : kd ≡ allKnown (length den) den) where
   tests : (kn && kd) ≡ (allKnown w num && allKnown w den)
@@ -238,6 +310,6 @@ module _ (w : ℕ) (num den : List ℕ) (kn kd : Bool) (ln : length num ≡ w) (
   divide-known q node g l out out′ n m h e =
       ap (λ (o : List ℕ). checkedOf g n l m o) e ∙ sym (pick-true (allKnown w num && allKnown w den) _ _ (sym tests ∙ h))
 
-  pub divide-free : (q : Bool) (node : ℕ) (s t : Checked) → (kn && kd) ≡ false → t ≡ freeWord q w node num den s → t ≡ divideWords q w node num den s
+  pub divide-other : (q : Bool) (node : ℕ) (s t : Checked) → (kn && kd) ≡ false → t ≡ byZero q w node num den s → t ≡ divideWords q w node num den s
   unfolding divideWords
-  divide-free q node s t h e = e ∙ sym (pick-false (allKnown w num && allKnown w den) _ _ (sym tests ∙ h))
+  divide-other q node s t h e = e ∙ sym (pick-false (allKnown w num && allKnown w den) _ _ (sym tests ∙ h))

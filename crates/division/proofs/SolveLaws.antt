@@ -1,30 +1,30 @@
--- What the equivalence gives: a division by a divisor that is not zero can be solved, in one way; by zero, in none.
-use mathlib.Core.Path.{_≡_, refl, sym, _∙_}
+-- What the equivalence gives: for every input one quotient and remainder meet the constraints, whatever the divisor.
+use mathlib.Core.Path.{_≡_, refl, ap, sym, _∙_}
 use mathlib.Core.List.{List}
-use mathlib.Core.Bool.{true, false}
+use mathlib.Core.Bool.{Bool, true, false, false≢true}
 use Prim.Native.Nat.{ℕ, zero, suc, _+_, _*_, _-_, _/_, _%_, _≤_, _<_}
 use native.Mathlib.Omega.{arith}
 use native.Mathlib.Decide.{decLt}
 use native.Mathlib.Nat.{mod-lt, div-add-mod', div-le-self, mod-le}
 use lib.Dec.{eqb, ltb}
 use lib.ListN.{getD}
-use borrow.Author.Tests.{lt-ltb, le-ltb}
+use borrow.Author.Tests.{lt-ltb, le-ltb, eqb-false}
 use Rattle.loops.specs.Loop.{pick}
-use Rattle.loops.proofs.Loop.{pick-true, pick-false}
+use Rattle.loops.proofs.Loop.{by-pick, pick-true, pick-false}
 use Rattle.netlist.specs.Record.{gateAt, Room}
 use Rattle.netlist.specs.Kind.{free}
 use Rattle.netlist.specs.Net.{Net, Assign, Obeys}
 use Rattle.gates.specs.Law.{Grows, Formed}
 use Rattle.gates.proofs.Laws.{keeps}
 use Rattle.gates.proofs.FormedLaws.{one-assignment, solved, solved-obeys, solved-given}
-use Rattle.digits.specs.Digits.{digit, Below}
-use Rattle.digits.proofs.Numbers.{number-same, number-digit}
+use Rattle.digits.specs.Digits.{digit, number, Below}
+use Rattle.digits.proofs.Numbers.{number-same, number-digits, number-digit, parts-one}
 use Rattle.words.specs.Num.{num}
-use Rattle.words.proofs.NumLaws.{num-lt, right-num}
+use Rattle.words.proofs.NumLaws.{num-lt}
 use Rattle.division.specs.Constraint.{ConRoom, Holds}
-use Rattle.division.specs.Check.{Book}
-use Rattle.division.specs.Divide.{Divided, DivLaw}
-use Rattle.division.proofs.CheckLaws.{divides-one, divides-none}
+use Rattle.division.specs.Rows.{Checked}
+use Rattle.division.specs.Zero.{nonzero}
+use Rattle.division.specs.Divide.{DividedLaw}
 
 -- the shorter net of a formed one is formed
 formed-back : (s t : Net) (k : ℕ) → Grows s t k → 2 ≤ s .n → Formed t → Formed s
@@ -70,116 +70,126 @@ module _ (s t : Net) (k : ℕ) (x : Grows s t k) (h : 2 ≤ s .n) (f : Formed t)
 pub num-agree : (e d : Assign) (bs : List ℕ) (n w : ℕ) → Below n bs w → ((j : ℕ) → j < n → e j ≡ d j) → num e bs w ≡ num d bs w
 num-agree e d bs n w b h = number-same (λ i. e (getD bs i 0)) (λ i. d (getD bs i 0)) w (λ j l. h (getD bs j 0) (b j l))
 
-module _ (w node : ℕ) (n d : List ℕ) (s : Book) (t : Divided) (k : DivLaw w node n d s t) (two : 2 ≤ s .net .n) (f : Formed (t .book .net))
-    (rm : Room (t .book .net .gates) (t .book .net .n)) (crm : ConRoom (t .book .cons)) (bn : Below (s .net .n) n w) (bd : Below (s .net .n) d w) where
-  -- the place of a free gate that is new: a Quotient or a Remainder
-  isQuot : (i : ℕ) → i < w → free (gateAt (t .book .net .gates) (s .net .n + 2 * i) .kind) ≡ true
+module _ (quotient : Bool) (w node : ℕ) (n d : List ℕ) (s t : Checked) (k : DividedLaw quotient w node n d s t) (two : 2 ≤ s .net .n) (f : Formed (t .net))
+    (rm : Room (t .net .gates) (t .net .n)) (crm : ConRoom (t .cons)) (bn : Below (s .net .n) n w) (bd : Below (s .net .n) d w) where
+  -- the free gates that are new
+  isQuot : (i : ℕ) → i < w → free (gateAt (t .net .gates) (k .from + 2 * i) .kind) ≡ true
   unfolding free
   isQuot i l = rw (k .gates rm i l .0)
 
-  isRem : (i : ℕ) → i < w → free (gateAt (t .book .net .gates) (s .net .n + 2 * i + 1) .kind) ≡ true
+  isRem : (i : ℕ) → i < w → free (gateAt (t .net .gates) (k .from + 2 * i + 1) .kind) ≡ true
   unfolding free
   isRem i l = rw (k .gates rm i l .1)
 
-  -- an assignment that meets the constraints exists if the divisor is not zero
-  module _ (e₀ : Assign) (o₀ : Obeys (s .net) e₀) (pos : 0 < num e₀ d w) where
+  -- an assignment that meets the constraints exists
+  module _ (e₀ : Assign) (o₀ : Obeys (s .net) e₀) where
     N : ℕ
     N = num e₀ n w
 
     D : ℕ
-    D = num e₀ d w
+    D = nonzero (num e₀ d w)
+
+    pos : 0 < D
+    unfolding D
+    pos = by-pick (λ x. 0 < x) (eqb (num e₀ d w) 0) 1 (num e₀ d w) (λ h. omega arith) (λ h. not-zero (num e₀ d w) (eqb-false (num e₀ d w) 0 h))
+      where
+        not-zero : (x : ℕ) → (x ≡ 0 → ⊥) → 0 < x
+        not-zero zero h = absurd (h refl)
+        not-zero (suc x) h = omega arith
 
     v : Assign
-    v j = pick (eqb ((j - s .net .n) % 2) 0) (eqb (digit (N / D) ((j - s .net .n) / 2)) 1) (eqb (digit (N % D) ((j - s .net .n) / 2)) 1)
+    v j = pick (eqb ((j - k .from) % 2) 0) (eqb (digit (N / D) ((j - k .from) / 2)) 1) (eqb (digit (N % D) ((j - k .from) / 2)) 1)
 
     pub solution : Assign
-    solution = extended (s .net) (t .book .net) _ (k .grows) two f rm e₀ v o₀
+    solution = extended (s .net) (t .net) _ (k .grows) two f rm e₀ v o₀
 
-    pub solution-obeys : Obeys (t .book .net) solution
+    pub solution-obeys : Obeys (t .net) solution
     unfolding solution
-    solution-obeys = extended-obeys (s .net) (t .book .net) _ (k .grows) two f rm e₀ v o₀
+    solution-obeys = extended-obeys (s .net) (t .net) _ (k .grows) two f rm e₀ v o₀
 
     pub solution-old : (j : ℕ) → j < s .net .n → solution j ≡ e₀ j
     unfolding solution
-    solution-old = extended-old (s .net) (t .book .net) _ (k .grows) two f rm e₀ v o₀
+    solution-old = extended-old (s .net) (t .net) _ (k .grows) two f rm e₀ v o₀
 
-    at-new : (j : ℕ) → s .net .n ≤ j → j < t .book .net .n → free (gateAt (t .book .net .gates) j .kind) ≡ true → solution j ≡ v j
+    at-new : (j : ℕ) → s .net .n ≤ j → j < t .net .n → free (gateAt (t .net .gates) j .kind) ≡ true → solution j ≡ v j
     unfolding solution
-    at-new = extended-new (s .net) (t .book .net) _ (k .grows) two f rm e₀ v o₀
+    at-new = extended-new (s .net) (t .net) _ (k .grows) two f rm e₀ v o₀
 
-    vq : (i : ℕ) → v (s .net .n + 2 * i) ≡ eqb (digit (N / D) i) 1
+    vq : (i : ℕ) → v (k .from + 2 * i) ≡ eqb (digit (N / D) i) 1
     unfolding v pick
     vq i =
-        let a : (s .net .n + 2 * i - s .net .n) % 2 ≡ 0 = omega arith in
-        let b : (s .net .n + 2 * i - s .net .n) / 2 ≡ i = omega arith in
+        let a : (k .from + 2 * i - k .from) % 2 ≡ 0 = omega arith in
+        let b : (k .from + 2 * i - k .from) / 2 ≡ i = omega arith in
         rw (a, b)
 
-    vr : (i : ℕ) → v (s .net .n + 2 * i + 1) ≡ eqb (digit (N % D) i) 1
+    vr : (i : ℕ) → v (k .from + 2 * i + 1) ≡ eqb (digit (N % D) i) 1
     unfolding v pick
     vr i =
-        let a : (s .net .n + 2 * i + 1 - s .net .n) % 2 ≡ 1 = omega arith in
-        let b : (s .net .n + 2 * i + 1 - s .net .n) / 2 ≡ i = omega arith in
+        let a : (k .from + 2 * i + 1 - k .from) % 2 ≡ 1 = omega arith in
+        let b : (k .from + 2 * i + 1 - k .from) / 2 ≡ i = omega arith in
         rw (a, b)
 
-    quotient : num solution (t .quot) w ≡ N / D
-    unfolding N D
-    quotient =
-        right-num solution (t .quot) w (N / D) (omega (arith, num-lt e₀ n w, div-le-self N D))
-        (λ i l. rw (k .quots i l) (at-new (s .net .n + 2 * i) (omega arith) (omega (arith, k .room)) (isQuot i l) ∙ vq i))
+    quot : number (λ i. solution (k .from + 2 * i)) w ≡ N / D
+    unfolding N
+    quot =
+        number-same (λ i. solution (k .from + 2 * i)) (λ i. eqb (digit (N / D) i) 1) w
+        (λ i l. at-new (k .from + 2 * i) (omega (arith, k .low)) (omega (arith, k .high)) (isQuot i l) ∙ vq i)
+        ∙ number-digits (N / D) w (omega (arith, num-lt e₀ n w, div-le-self N D))
 
-    remainder : num solution (t .rem) w ≡ N % D
-    unfolding N D
-    remainder =
-        right-num solution (t .rem) w (N % D) (omega (arith, num-lt e₀ n w, mod-le N D))
-        (λ i l. rw (k .rems i l) (at-new (s .net .n + 2 * i + 1) (omega arith) (omega (arith, k .room)) (isRem i l) ∙ vr i))
+    rem : number (λ i. solution (k .from + 2 * i + 1)) w ≡ N % D
+    unfolding N
+    rem =
+        number-same (λ i. solution (k .from + 2 * i + 1)) (λ i. eqb (digit (N % D) i) 1) w
+        (λ i l. at-new (k .from + 2 * i + 1) (omega (arith, k .low)) (omega (arith, k .high)) (isRem i l) ∙ vr i)
+        ∙ number-digits (N % D) w (omega (arith, num-lt e₀ n w, mod-le N D))
 
-    pub solution-holds : Holds solution (t .book .cons .list) (s .cons .m) (t .book .cons .m)
+    pub solution-holds : Holds solution (t .cons .list) (s .cons .m) (t .cons .m)
     unfolding N D
     solution-holds =
         let nn : num solution n w ≡ N = num-agree solution e₀ n (s .net .n) w bn solution-old in
-        let dd : num solution d w ≡ D = num-agree solution e₀ d (s .net .n) w bd solution-old in
-        k .holds solution solution-obeys crm .1 (rw (quotient, dd, remainder, nn) (div-add-mod' N D), rw (dd, remainder) (mod-lt N pos))
+        let dd : nonzero (num solution d w) ≡ D = ap (λ (x : ℕ). nonzero x) (num-agree solution e₀ d (s .net .n) w bd solution-old) in
+        k .holds solution solution-obeys crm .1 (rw (quot, dd, rem, nn) (div-add-mod' N D), rw (dd, rem) (mod-lt N pos))
 
   -- two assignments that meet the constraints and agree on the net before agree on all of it: one quotient and remainder
-  module _ (e e′ : Assign) (o : Obeys (t .book .net) e) (o′ : Obeys (t .book .net) e′) (h : Holds e (t .book .cons .list) (s .cons .m) (t .book .cons .m))
-      (h′ : Holds e′ (t .book .cons .list) (s .cons .m) (t .book .cons .m)) (agree : (j : ℕ) → j < s .net .n → e j ≡ e′ j) where
+  module _ (e e′ : Assign) (o : Obeys (t .net) e) (o′ : Obeys (t .net) e′) (h : Holds e (t .cons .list) (s .cons .m) (t .cons .m))
+      (h′ : Holds e′ (t .cons .list) (s .cons .m) (t .cons .m)) (agree : (j : ℕ) → j < s .net .n → e j ≡ e′ j) where
     nn : num e n w ≡ num e′ n w
     nn = num-agree e e′ n (s .net .n) w bn agree
 
     dd : num e d w ≡ num e′ d w
     dd = num-agree e e′ d (s .net .n) w bd agree
 
-    a : (num e (t .quot) w ≡ num e n w / num e d w) × (num e (t .rem) w ≡ num e n w % num e d w) × (0 < num e d w)
-    a = divides-one w (t .quot) (t .rem) n d e (k .holds e o crm .0 h)
+    a : (number (λ i. e (k .from + 2 * i)) w ≡ num e n w / nonzero (num e d w)) × (number (λ i. e (k .from + 2 * i + 1)) w ≡ num e n w % nonzero (num e d w)) × (0 < nonzero (num e d w))
+    a = parts-one _ _ _ _ (k .holds e o crm .0 h)
 
-    b : (num e′ (t .quot) w ≡ num e′ n w / num e′ d w) × (num e′ (t .rem) w ≡ num e′ n w % num e′ d w) × (0 < num e′ d w)
-    b = divides-one w (t .quot) (t .rem) n d e′ (k .holds e′ o′ crm .0 h′)
+    b : (number (λ i. e′ (k .from + 2 * i)) w ≡ num e n w / nonzero (num e d w)) × (number (λ i. e′ (k .from + 2 * i + 1)) w ≡ num e n w % nonzero (num e d w)) × (0 < nonzero (num e d w))
+    b = rw (nn, dd) (parts-one _ _ _ _ (k .holds e′ o′ crm .0 h′))
 
-    same-quot : (i : ℕ) → i < w → e (s .net .n + 2 * i) ≡ e′ (s .net .n + 2 * i)
-    same-quot i l = rw (k .quots i l) at (number-digit (λ j. e (getD (t .quot) j 0)) (λ j. e′ (getD (t .quot) j 0)) w (a .0 ∙ (rw (nn, dd) (sym (b .0)))) i l)
+    same-quot : (i : ℕ) → i < w → e (k .from + 2 * i) ≡ e′ (k .from + 2 * i)
+    same-quot i l = number-digit (λ j. e (k .from + 2 * j)) (λ j. e′ (k .from + 2 * j)) w (a .0 ∙ sym (b .0)) i l
 
-    same-rem : (i : ℕ) → i < w → e (s .net .n + 2 * i + 1) ≡ e′ (s .net .n + 2 * i + 1)
-    same-rem i l = rw (k .rems i l) at (number-digit (λ j. e (getD (t .rem) j 0)) (λ j. e′ (getD (t .rem) j 0)) w (a .1 ∙ (rw (nn, dd) (sym (b .1)))) i l)
+    same-rem : (i : ℕ) → i < w → e (k .from + 2 * i + 1) ≡ e′ (k .from + 2 * i + 1)
+    same-rem i l = number-digit (λ j. e (k .from + 2 * j + 1)) (λ j. e′ (k .from + 2 * j + 1)) w (a .1 ∙ sym (b .1)) i l
 
-    at-free : (j : ℕ) → j < t .book .net .n → free (gateAt (t .book .net .gates) j .kind) ≡ true → e j ≡ e′ j
-    at-free j lt r = go (decLt j (s .net .n)) (decLt j (s .net .n + 2 * w))
+    at-free : (j : ℕ) → j < t .net .n → free (gateAt (t .net .gates) j .kind) ≡ true → e j ≡ e′ j
+    at-free j lt r = go (decLt j (s .net .n)) (decLt j (k .from)) (decLt j (k .from + 2 * w))
       where
         i : ℕ
-        i = (j - s .net .n) / 2
+        i = (j - k .from) / 2
 
-        odd : s .net .n ≤ j → j < s .net .n + 2 * w → (m : ℕ) → (j - s .net .n) % 2 ≡ m → e j ≡ e′ j
-        odd lo hi zero q = let z : j ≡ s .net .n + 2 * i = omega arith in rw z (same-quot i (omega arith))
-        odd lo hi (suc zero) q = let z : j ≡ s .net .n + 2 * i + 1 = omega arith in rw z (same-rem i (omega arith))
+        bound : free (gateAt (t .net .gates) j .kind) ≡ false → e j ≡ e′ j
+        bound u = absurd (false≢true (sym u ∙ r))
+
+        odd : k .from ≤ j → j < k .from + 2 * w → (m : ℕ) → (j - k .from) % 2 ≡ m → e j ≡ e′ j
+        odd lo hi zero q = let z : j ≡ k .from + 2 * i = omega arith in rw z (same-quot i (omega arith))
+        odd lo hi (suc zero) q = let z : j ≡ k .from + 2 * i + 1 = omega arith in rw z (same-rem i (omega arith))
         odd lo hi (suc (suc m)) q = absurd (omega arith)
 
-        go : Dec (j < s .net .n) → Dec (j < s .net .n + 2 * w) → e j ≡ e′ j
-        go (yes l) q = agree j l
-        go (no l) (yes q) = odd (omega arith) q ((j - s .net .n) % 2) refl
-        go (no l) (no q) = absurd (let u : free (gateAt (t .book .net .gates) j .kind) ≡ false = k .bound rm j (omega arith) lt in let z : _≡_ {A = ℕ} 0 1 = cc in omega arith)
+        go : Dec (j < s .net .n) → Dec (j < k .from) → Dec (j < k .from + 2 * w) → e j ≡ e′ j
+        go (yes l) p q = agree j l
+        go (no l) (yes p) q = bound (k .before rm j (omega arith) p)
+        go (no l) (no p) (yes q) = odd (omega arith) q ((j - k .from) % 2) refl
+        go (no l) (no p) (no q) = bound (k .after rm j (omega arith) lt)
 
-    pub one-solution : (j : ℕ) → j < t .book .net .n → e j ≡ e′ j
-    one-solution = one-assignment (t .book .net) f e e′ o o′ at-free
-
-  -- none for divisor zero
-  pub no-solution : (e : Assign) → Obeys (t .book .net) e → num e d w ≡ 0 → Holds e (t .book .cons .list) (s .cons .m) (t .book .cons .m) → ⊥
-  no-solution e o z h = divides-none w (t .quot) (t .rem) n d e z (k .holds e o crm .0 h)
+    pub one-solution : (j : ℕ) → j < t .net .n → e j ≡ e′ j
+    one-solution = one-assignment (t .net) f e e′ o o′ at-free

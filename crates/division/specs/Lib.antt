@@ -3,4 +3,5 @@ pub mod Rows
 pub mod Check
 pub mod Pair
 pub mod Known
+pub mod Zero
 pub mod Divide

@@ -2,34 +2,83 @@
 ghost use mathlib.Core.Path.{_≡_};
 ghost use Prim.Native.Nat.{_+_, _≤_};
 ghost use lib.ListN.{length};
-ghost use Rattle.loops.specs.Loop.{pick};
 ghost use Rattle.gates.specs.Made.{Fits};
-ghost use Rattle.words.specs.Each.{putBits};
+ghost use Rattle.words.specs.Num.{blank};
 ghost use Rattle.division.specs.Constraint.{conUsed};
 ghost use Rattle.division.specs.Rows.{checkedOf};
-ghost use Rattle.division.specs.Check.{conCount};
-ghost use Rattle.division.specs.Divide.{freeWord, divideWords, divCost};
+ghost use Rattle.division.specs.Check.{bookOf, conCount};
+ghost use Rattle.division.specs.Divide.{dividedOf, divWords, freeWord, byZero, divideWords, divCost, freeCost, divideCost};
 use crate::check;
 use crate::constraint::Counts;
 use crate::known;
 use crate::pair;
+use crate::zero;
 use gates::made::At;
-use words::each;
 
-// The one of two words that is asked for.
-fn put_asked(out: &mut [u32], quotient: bool, quot: &[u32], rem: &[u32], w: usize)
-    requires { ⌜ (w ≤ length (now out)) × (w ≤ length (now quot)) × (w ≤ length (now rem)) ⌝ }
-    ensures { λ _. ⌜ now (out .exit) ≡ putBits 0 (pick quotient (now (quot .entry)) (now (rem .entry))) w (now (out .entry)) ⌝ }
+// Quotient and remainder as gates, and their constraints.
+fn div_words(
+    gates: &mut [u32],
+    at: At,
+    cons: &mut [u32],
+    m: usize,
+    node: u32,
+    num: &[u32],
+    den: &[u32],
+    w: usize,
+    quot: &mut [u32],
+    rem: &mut [u32],
+) -> Counts
+    requires { ⌜ Fits (now gates) at (divCost w) ⌝ }
+    requires { ⌜ conUsed (m + conCount w) ≤ length (now cons) ⌝ }
+    requires { ⌜ (w ≤ 64) × (w ≤ length (now num)) × (w ≤ length (now den)) × (now quot ≡ blank) × (now rem ≡ blank) ⌝ }
+    ensures { λ r. ⌜ dividedOf (now (gates .exit)) (r .at) (now (cons .exit)) (r .m) (now (quot .exit)) (now (rem .exit)) ≡ divWords w node (now (num .entry)) (now (den .entry)) (bookOf (now (gates .entry)) at (now (cons .entry)) m) ⌝ }
 {
-    if quotient {
-        each::put_bits(out, 0, quot, w);
-        return;
-    }
-    each::put_bits(out, 0, rem, w);
+    let next = pair::pair_words(gates, at, node, w, quot, rem);
+    check::check_words(gates, next, cons, m, quot, rem, num, den, w)
 }
 
-// By gates and constraints.
+// By gates: over the divisor with its lowest bit Ored with z, and the choice by z.
 fn divide_free(
+    gates: &mut [u32],
+    at: At,
+    cons: &mut [u32],
+    m: usize,
+    quotient: bool,
+    node: u32,
+    num: &[u32],
+    den: &[u32],
+    z: u32,
+    w: usize,
+    out: &mut [u32],
+) -> Counts
+    requires { ⌜ Fits (now gates) at (freeCost w) ⌝ }
+    requires { ⌜ conUsed (m + conCount w) ≤ length (now cons) ⌝ }
+    requires { ⌜ (1 ≤ w) × (w ≤ 64) × (w ≤ length (now num)) × (w ≤ length (now den)) × (w ≤ length (now out)) ⌝ }
+    ensures { λ r. ⌜ checkedOf (now (gates .exit)) (r .at) (now (cons .exit)) (r .m) (now (out .exit)) ≡ freeWord quotient w node (now (num .entry)) (now (den .entry)) z (checkedOf (now (gates .entry)) at (now (cons .entry)) m (now (out .entry))) ⌝ }
+{
+    let mut raised = [0u32; 65];
+    let mut quot = [0u32; 65];
+    let mut rem = [0u32; 65];
+    let next = zero::raise(gates, at, den, z, w, &mut raised);
+    let c = div_words(
+        gates,
+        next,
+        cons,
+        m,
+        node,
+        num,
+        &raised,
+        w,
+        &mut quot,
+        &mut rem,
+    );
+    let last = zero::choose(gates, c.at, quotient, z, num, &quot, &rem, w, out);
+    let end = c.m;
+    Counts { at: last, m: end }
+}
+
+// Operands that are not both wholly known.
+fn by_zero(
     gates: &mut [u32],
     at: At,
     cons: &mut [u32],
@@ -41,17 +90,19 @@ fn divide_free(
     w: usize,
     out: &mut [u32],
 ) -> Counts
-    requires { ⌜ Fits (now gates) at (divCost w) ⌝ }
+    requires { ⌜ Fits (now gates) at (divideCost w) ⌝ }
     requires { ⌜ conUsed (m + conCount w) ≤ length (now cons) ⌝ }
-    requires { ⌜ (w ≤ 64) × (w ≤ length (now num)) × (w ≤ length (now den)) × (w ≤ length (now out)) ⌝ }
-    ensures { λ r. ⌜ checkedOf (now (gates .exit)) (r .at) (now (cons .exit)) (r .m) (now (out .exit)) ≡ freeWord quotient w node (now (num .entry)) (now (den .entry)) (checkedOf (now (gates .entry)) at (now (cons .entry)) m (now (out .entry))) ⌝ }
+    requires { ⌜ (1 ≤ w) × (w ≤ 64) × (w ≤ length (now num)) × (w ≤ length (now den)) × (w ≤ length (now out)) ⌝ }
+    ensures { λ r. ⌜ checkedOf (now (gates .exit)) (r .at) (now (cons .exit)) (r .m) (now (out .exit)) ≡ byZero quotient w node (now (num .entry)) (now (den .entry)) (checkedOf (now (gates .entry)) at (now (cons .entry)) m (now (out .entry))) ⌝ }
 {
-    let mut quot = [0u32; 65];
-    let mut rem = [0u32; 65];
-    let next = pair::pair_words(gates, at, node, w, &mut quot, &mut rem);
-    let end = check::check_words(gates, next, cons, m, &quot, &rem, num, den, w);
-    put_asked(out, quotient, &quot, &rem, w);
-    end
+    let z = zero::zero_bit(gates, at, den, w);
+    let bit = z.bit;
+    let next = z.at;
+    if bit == 1 {
+        zero::put_zero(out, quotient, num, w);
+        return Counts { at: next, m };
+    }
+    divide_free(gates, next, cons, m, quotient, node, num, den, bit, w, out)
 }
 
 // The quotient of two words of w bits, or the remainder; as numbers where both are wholly known.
@@ -67,7 +118,7 @@ pub fn divide(
     w: usize,
     out: &mut [u32],
 ) -> Counts
-    requires { ⌜ Fits (now gates) at (divCost w) ⌝ }
+    requires { ⌜ Fits (now gates) at (divideCost w) ⌝ }
     requires { ⌜ conUsed (m + conCount w) ≤ length (now cons) ⌝ }
     requires { ⌜ (1 ≤ w) × (w ≤ 64) × (length (now num) ≡ w) × (length (now den) ≡ w) × (w ≤ length (now out)) ⌝ }
     ensures { λ r. ⌜ checkedOf (now (gates .exit)) (r .at) (now (cons .exit)) (r .m) (now (out .exit)) ≡ divideWords quotient w node (now (num .entry)) (now (den .entry)) (checkedOf (now (gates .entry)) at (now (cons .entry)) m (now (out .entry))) ⌝ }
@@ -78,5 +129,5 @@ pub fn divide(
         known::divide_known(quotient, num, den, w, out);
         return Counts { at, m };
     }
-    divide_free(gates, at, cons, m, quotient, node, num, den, w, out)
+    by_zero(gates, at, cons, m, quotient, node, num, den, w, out)
 }

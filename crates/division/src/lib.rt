@@ -5,3 +5,4 @@ pub mod divide;
 pub mod known;
 pub mod pair;
 pub mod rows;
+pub mod zero;

@@ -10,4 +10,4 @@ abbrev pub Narrow : ℕ → Type 0
 Narrow w = (1 ≤ w) × (w ≤ 3)
 
 abbrev pub Enough : List ℕ → At → List ℕ → Type 0
-Enough gates at cons = Fits gates at 61 × (conUsed 11 ≤ length cons)
+Enough gates at cons = Fits gates at 76 × (conUsed 11 ≤ length cons)

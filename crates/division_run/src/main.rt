@@ -1,4 +1,4 @@
-// Lowers divu and rem of two given words at widths 1 to 3 and tries every quotient and remainder at every input. Exactly one must meet the constraints, and be what numbers give; none where the divisor is 0.
+// Lowers divu and rem of two given words at widths 1 to 3 and tries every quotient and remainder at every input. Exactly one must meet the constraints, and under it the word must be what BTOR2's numbers give, a divisor 0 included.
 ghost use mathlib.Core.Path.{_≡_};
 ghost use Prim.Native.Nat.{_+_, _*_, _≤_, _<_};
 ghost use lib.ListN.{length};
@@ -57,13 +57,16 @@ fn divisor(input: u64, w: usize) -> u64
     input >> w
 }
 
-// What numbers give, where the divisor is not 0.
-fn wanted(quotient: bool, n: u64, d: u64) -> u64 {
-    if d == 0 {
-        return 0;
-    }
+// What numbers give; by 0 all ones, or the dividend.
+fn wanted(quotient: bool, w: usize, n: u64, d: u64) -> u64 {
     if quotient {
+        if d == 0 {
+            return greatest(w);
+        }
         return n / d;
+    }
+    if d == 0 {
+        return n;
     }
     n % d
 }
@@ -163,7 +166,7 @@ fn guesses(
     t
 }
 
-// One input more: it has one solution, or none where the divisor is 0, and that says what is wanted.
+// One input more: it has one solution, and that says what is wanted.
 fn input_step(
     gates: &[u32],
     cons: &[u32],
@@ -183,12 +186,12 @@ fn input_step(
 {
     let n = dividend(input, w);
     let d = divisor(input, w);
-    let want = wanted(quotient, n, d);
+    let want = wanted(quotient, w, n, d);
     trial::give(values, given, input);
     let g = guesses(gates, cons, m, values, free, out, want, inputs(w));
     let solutions = t.solutions + g.solutions;
     let mut differ = t.differ;
-    if (g.differ != 0) | (g.solutions != (d != 0) as u64) {
+    if (g.differ != 0) | (g.solutions != 1) {
         differ += 1;
     }
     Tried { solutions, differ }
@@ -234,13 +237,13 @@ fn count(
     t
 }
 
-// The Quotient and Remainder gates are the next ones after those that are there.
-fn free_word(at: At, free: &mut [u32])
-    requires { ⌜ at .n + length (now free) < 4294967296 ⌝ }
+// The Quotient and Remainder gates are those from a gate on.
+fn free_word(from: usize, free: &mut [u32])
+    requires { ⌜ from + length (now free) < 4294967296 ⌝ }
 {
     let mut i = 0;
     while i < free.len() {
-        free[i] = (at.n + i) as u32;
+        free[i] = (from + i) as u32;
         i += 1;
     }
 }
@@ -262,7 +265,7 @@ fn lower(
     divide::divide(gates, at, cons, 0, quotient, 2, num, den, w, out)
 }
 
-// The constants, the input, and the operation over it.
+// The constants, the input, and the operation over it. Before its Quotient and Remainder gates stand those of the divisor's equality with 0, w Nots and w - 1 Ands, and the Or.
 fn prepare(
     gates: &mut [u32],
     cons: &mut [u32],
@@ -272,13 +275,13 @@ fn prepare(
     free: &mut [u32],
     out: &mut [u32],
 ) -> Counts
-    requires { ⌜ Room (now gates) 69 × (conUsed 11 ≤ length (now cons)) ⌝ }
+    requires { ⌜ Room (now gates) 84 × (conUsed 11 ≤ length (now cons)) ⌝ }
     requires { ⌜ Narrow w × (length (now given) ≡ 2 * w) × (length (now free) ≡ 2 * w) × (w ≤ length (now out)) ⌝ }
     ensures { λ r. ⌜ Room (now (gates .entry)) (r .at .n) × (conUsed (r .m) ≤ length (now (cons .entry))) ⌝ }
 {
     let start = trial::constants(gates);
     let at = trial::input_word(gates, start, 1, given);
-    free_word(at, free);
+    free_word(at.n + 2 * w, free);
     lower(gates, at, cons, quotient, given, w, out)
 }
 
@@ -293,7 +296,7 @@ fn attempt(
     free: &mut [u32],
     out: &mut [u32],
 ) -> Tried
-    requires { ⌜ Room (now gates) 69 × (conUsed 11 ≤ length (now cons)) ⌝ }
+    requires { ⌜ Room (now gates) 84 × (conUsed 11 ≤ length (now cons)) ⌝ }
     requires { ⌜ Narrow w × (length (now given) ≡ 2 * w) × (length (now free) ≡ 2 * w) × (w ≤ length (now out)) ⌝ }
 {
     let end = prepare(gates, cons, quotient, w, given, free, out);
@@ -302,13 +305,13 @@ fn attempt(
     count(list, cons, end.m, values, given, free, out, quotient, w)
 }
 
-// The same with lists of its own, and its line. There is room for 69 gates: at most 8 stand before the operation, and it makes no more than 61.
+// The same with lists of its own, and its line. There is room for 84 gates: at most 8 stand before the operation, and it makes no more than 76.
 fn run(name: &[u8], quotient: bool, w: usize, page: &mut [u8], place: usize) -> usize
     requires { ⌜ Narrow w ⌝ }
 {
-    let mut gates = [0u32; 276];
+    let mut gates = [0u32; 336];
     let mut cons = [0u32; 22];
-    let mut values = [0u8; 69];
+    let mut values = [0u8; 84];
     let mut given = [0u32; 6];
     let mut free = [0u32; 6];
     let mut out = [0u32; 3];

@@ -1,5 +1,6 @@
 pub mod Laws
 pub mod FoldLaws
+pub mod TrueLaws
 pub mod AdderLaws
 pub mod ChoiceLaws
 pub mod GivenLaws

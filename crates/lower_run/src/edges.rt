@@ -272,17 +272,17 @@ fn wide_division(table: &mut [u64])
     put_node(table, 5, BAD, 1, 4, 0, 0);
 }
 
-// The sums are 11362 gates (2 constants, 64 and 64 of the inputs, 11041 of the divu, 191 of the eq), 2146 constraints and 194 bits: so much is enough.
-// Of its 11041 the divu makes 8706, since constants fold: 2w² + 8w + 2 at width w. Of its constraints it records all.
+// The sums are 11682 gates (2 constants, 64 and 64 of the inputs, 11361 of the divu, 191 of the eq), 2146 constraints and 194 bits: so much is enough.
+// Of its 11361 the divu makes 8962, since constants fold: 2w² + 12w + 2 at width w. Of its constraints it records all.
 fn division() -> bool {
     let addrs = [0u64; 0];
     let mut table = [0u64; 30];
     wide_division(&mut table);
-    let mut gates = [0u32; 45448];
+    let mut gates = [0u32; 46728];
     let mut constraints = [0u32; 4292];
     let mut map = [0u32; 194];
     let found = lowered(&table, &addrs, 64, &mut gates, &mut constraints, &mut map);
-    same_outcome(found, done(9027, 2146)) & unused(&gates, 36108, 0)
+    same_outcome(found, done(9283, 2146)) & unused(&gates, 37132)
 }
 
 // Where a number is missing it is refused, and nothing is changed.
@@ -312,21 +312,21 @@ fn division_refused(
 
 // Of the gates, the map and the constraints: the first of them says which refusal.
 fn no_gate_room() -> bool {
-    let mut gates = [0u32; 45447];
+    let mut gates = [0u32; 46727];
     let mut constraints = [0u32; 4291];
     let mut map = [0u32; 193];
     division_refused(7, &mut gates, &mut constraints, &mut map)
 }
 
 fn no_bit_room() -> bool {
-    let mut gates = [0u32; 45448];
+    let mut gates = [0u32; 46728];
     let mut constraints = [0u32; 4291];
     let mut map = [0u32; 193];
     division_refused(8, &mut gates, &mut constraints, &mut map)
 }
 
 fn no_constraint_room() -> bool {
-    let mut gates = [0u32; 45448];
+    let mut gates = [0u32; 46728];
     let mut constraints = [0u32; 4291];
     let mut map = [0u32; 194];
     division_refused(9, &mut gates, &mut constraints, &mut map)

@@ -81,19 +81,11 @@ pub fn lowered(
     in_numbers(answer)
 }
 
-// What a place holds after that is not used: refusal 10 leaves 0, any other answer what stood there.
-fn left(refusal: u64, i: usize) -> u32 {
-    if refusal == 10 {
-        return 0;
-    }
-    before(i)
-}
-
-// The places from one on are not used.
-pub fn unused(found: &[u32], from: usize, refusal: u64) -> bool {
+// The places from one on are not used: they hold what stood there.
+pub fn unused(found: &[u32], from: usize) -> bool {
     let mut i = from;
     while i < found.len() {
-        if found[i] != left(refusal, i) {
+        if found[i] != before(i) {
             return false;
         }
         i += 1;
@@ -116,8 +108,8 @@ fn same_part(found: &[u32], used: &[u32]) -> bool {
     true
 }
 
-fn same_buffer(found: &[u32], used: &[u32], refusal: u64) -> bool {
-    same_part(found, used) & unused(found, used.len(), refusal)
+fn same_buffer(found: &[u32], used: &[u32]) -> bool {
+    same_part(found, used) & unused(found, used.len())
 }
 
 // Whether the lowering gives the wanted answer, the used parts of the three buffers, and nothing beyond them.
@@ -134,9 +126,8 @@ pub fn judge(
     used_map: &[u32],
 ) -> bool {
     let found = lowered(table, addrs, word, gates, constraints, map);
-    let refusal = wanted.refusal;
     same_outcome(found, wanted)
-        & same_buffer(gates, used_gates, refusal)
-        & same_buffer(constraints, used_constraints, refusal)
-        & same_buffer(map, used_map, refusal)
+        & same_buffer(gates, used_gates)
+        & same_buffer(constraints, used_constraints)
+        & same_buffer(map, used_map)
 }

@@ -1,7 +1,6 @@
 pub mod StartLaws
 pub mod SmallLaws
 pub mod RightLower
-pub mod Demands
 pub mod VisitFacts
 pub mod FillLaws
 pub mod Caps

@@ -1,12 +1,12 @@
 -- What the proof of the entry point cites: refusal by refusal, and where the lowering ended.
-use mathlib.Core.Path.{_≡_, refl, ap, sym, _∙_, subst}
+use mathlib.Core.Path.{_≡_, refl, ap, sym, _∙_}
 use mathlib.Core.List.{List, _++_}
 use mathlib.Core.Bool.{Bool, true, false, not}
 use Prim.Native.Nat.{ℕ, _+_, _-_, _≤_, _<_}
 use native.Mathlib.Omega.{arith}
-use lib.ListN.{length, take, drop, replicate, length-append, length-drop}
+use lib.ListN.{length, take, drop}
 use lib.Seq.{length-take-le}
-use borrow.Author.Tests.{eq-eqb, ne-eqb, lt-ltb, le-ltb}
+use borrow.Author.Tests.{lt-ltb, le-ltb}
 use Rattle.loops.proofs.Loop.{pick-true, pick-false}
 use Rattle.table.specs.declared.Fault.{Fault}
 use Rattle.table.specs.declared.Fault.the-variants.{Clear}
@@ -19,20 +19,16 @@ use Rattle.table.specs.Ceiling.{sumsOf}
 use Rattle.table.proofs.Whole.{within, fine, is-clear}
 use Rattle.table.proofs.size.Laws as size
 use Rattle.netlist.specs.Record.{records}
+use Rattle.division.specs.declared.constraint.Counts.{Counts}
 use Rattle.visits.specs.Flow.{Low}
-use Rattle.lowering.specs.declared.lower.Answer.the-variants.{Done, Table, NothingAsked, GateRoom, BitRoom, ConstraintRoom, ZeroDivisor}
-use Rattle.nodes.specs.declared.own.Progress.{Progress}
+use Rattle.lowering.specs.declared.lower.Answer.the-variants.{Done, Table, NothingAsked, GateRoom, BitRoom, ConstraintRoom}
 use Rattle.nodes.specs.Source.{Source, listed, totalOf}
-use Rattle.lowering.specs.Lower.{Run, run, sums, conRecords, zeros, lowered, ended, lowerClear, lowerAsked, lowerAll, marked, Accepted}
+use Rattle.lowering.specs.Lower.{Run, run, sums, conRecords, lowered, ended, lowerClear, lowerAsked, lowerAll, marked, Accepted}
 use Rattle.lowering.specs.Visit.{Begins, lowOf}
 
 pub map-sum : (S : Source) → sums S .map ≡ totalOf S
 unfolding sumsOf
 map-sum S = refl
-
--- a lent part comes back as long as it was
-pub lent-long : (total : ℕ) (m m1 : List ℕ) → total ≤ length m → length m1 ≡ length (take total m) → length (m1 ++ drop total m) ≡ length m
-lent-long total m m1 le e = omega (arith, length-append m1 (drop total m), length-drop total m, length-take-le total m le)
 
 -- what is asked of the offsets, and where the lowering begins
 module _ (S : Source) (g c m : List ℕ) (h : Accepted S g c m) (o z : List ℕ) (long : 514 ≤ length o) (wide : 513 ≤ length z) where
@@ -58,24 +54,12 @@ module _ (S : Source) (g c m : List ℕ) (h : Accepted S g c m) (o z : List ℕ)
       }
 
 -- where the lowering ended
-module _ (S : Source) (g c m z g1 c1 m1 z1 : List ℕ) (p : Progress) (e : lowOf g1 c1 m1 z1 p ≡ lowered S g c) where
-  seen : z1 ++ drop (nodes (S .table) + 1) z ≡ lowered S g c .seen ++ drop (nodes (S .table) + 1) z
-  seen = ap (λ (t : Low). t .seen ++ drop (nodes (S .table) + 1) z) e
-
-  pub ended-done : p .stop ≡ 0 → (total : ℕ) → total ≡ totalOf S
-      → (run (Done (p .at .n) (p .constraints)) g1 c1 (m1 ++ drop total m) ≡ ended S g c m (lowered S g c))
-      × (z1 ++ drop (nodes (S .table) + 1) z ≡ marked S g c z (Done (p .at .n) (p .constraints)))
+module _ (S : Source) (g c m z g1 c1 m1 z1 : List ℕ) (p : Counts) (e : lowOf g1 c1 m1 z1 p ≡ lowered S g c) where
+  pub ended-done : (total : ℕ) → total ≡ totalOf S
+      → (run (Done (p .at .n) (p .m)) g1 c1 (m1 ++ drop total m) ≡ ended S m (lowered S g c))
+      × (z1 ++ drop (nodes (S .table) + 1) z ≡ marked S g c z (Done (p .at .n) (p .m)))
   unfolding ended marked
-  ended-done h total t = (rw t (subst (λ (x : Low). run (Done (p .at .n) (p .constraints)) g1 c1 (m1 ++ drop (totalOf S) m) ≡ ended S g c m x) e (sym (pick-true _ _ _ (eq-eqb (p .stop) 0 h)))), seen)
-
-  pub ended-stopped : (p .stop ≡ 0 → ⊥) → (g2 c2 m2 : List ℕ) → g2 ≡ zeros g → c2 ≡ zeros c → m2 ≡ zeros m
-      → (run (ZeroDivisor (p .stop)) g2 c2 m2 ≡ ended S g c m (lowered S g c)) × (z1 ++ drop (nodes (S .table) + 1) z ≡ marked S g c z (ZeroDivisor (p .stop)))
-  unfolding ended marked
-  ended-stopped h g2 c2 m2 eg ec em = (rw (eg, ec, em) (subst (λ (x : Low). run (ZeroDivisor (p .stop)) (zeros g) (zeros c) (zeros m) ≡ ended S g c m x) e (sym (pick-false _ _ _ (ne-eqb (p .stop) 0 h)))), seen)
-
--- a buffer that is filled with zeros is as long as it was lent
-pub zeroed : (l x y : List ℕ) → y ≡ replicate (length x) 0 → length x ≡ length l → y ≡ zeros l
-zeroed l x y e h = rw h at e
+  ended-done total t = (rw t (ap (ended S m) e), ap (λ (x : Low). x .seen ++ drop (nodes (S .table) + 1) z) e)
 
 -- room first: 7, 8, 9
 module _ (S : Source) (g c m z : List ℕ) (s : Sums) (e : s ≡ sums S) where
@@ -111,7 +95,7 @@ module _ (S : Source) (g c m z : List ℕ) (s : Sums) (e : s ≡ sums S) where
         pub accepted : (tableFault (S .table) (S .addrs) (S .word) ≡ Clear) × (asks (S .table) ≡ true) → Accepted S g c m
         accepted h = record { clear = h .0; asked = h .1; gates = enough; map = places; constraints = pairs }
 
-        pub roomy : (r : Run) → r ≡ ended S g c m (lowered S g c) → r ≡ lowerClear S g c m
+        pub roomy : (r : Run) → r ≡ ended S m (lowered S g c) → r ≡ lowerClear S g c m
         unfolding lowerClear
         roomy r h =
             h

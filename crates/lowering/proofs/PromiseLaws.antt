@@ -1,48 +1,40 @@
 -- From the answer the demands follow: what the entry point promises.
 use mathlib.Core.Path.{_≡_, refl, ap, sym, _∙_, subst}
 use mathlib.Core.List.{List, [], _++_}
-use mathlib.Core.Logic.{_⊎_, inl, inr}
-use mathlib.Core.Bool.{Bool, true, false, not}
+use mathlib.Core.Bool.{Bool, true, not}
 use Prim.Native.Nat.{ℕ, suc, _+_, _≤_, _<_}
-use native.Mathlib.Omega.{arith}
-use native.Mathlib.Decide.{ℕ-discrete}
-use lib.Dec.{eqb, ltb}
+use lib.Dec.{ltb}
 use lib.ListN.{length, take, drop}
 use lib.Seq.{take-append-seam}
-use borrow.Author.Tests.{eqb-true, ltb-false}
-use Rattle.loops.specs.Loop.{iter}
+use borrow.Author.Tests.{ltb-false}
 use Rattle.loops.proofs.Loop.{by-pick, iter-inv}
 use Rattle.table.specs.declared.Fault.the-variants.{Clear}
 use Rattle.table.specs.Sheet.{tableFault, isClear, asks}
 use Rattle.table.proofs.Whole.{is-clear}
 use Rattle.netlist.specs.Record.{records}
-use Rattle.values.specs.declared.Answer.the-variants as words
 use Rattle.values.specs.Eval.{evalWords}
-use Rattle.visits.specs.Flow.{Core, Low, visitTo, rootStep, lowerTo}
-use Rattle.visits.specs.Claims.{Is, OwnLaw, Lowered, Small, Halted}
+use Rattle.visits.specs.Flow.{Core, Low, rootStep, lowerTo}
+use Rattle.visits.specs.Claims.{Is, Lowered, Small}
 use Rattle.visits.proofs.Later.{Sound, sound-later, visit-later}
 use Rattle.visits.proofs.Roots.{start-sound}
 use Rattle.lowering.specs.declared.lower.Answer.{Answer}
-use Rattle.lowering.specs.declared.lower.Answer.the-variants.{Done, Table, GateRoom, BitRoom, ConstraintRoom, ZeroDivisor}
+use Rattle.lowering.specs.declared.lower.Answer.the-variants.{Done}
 use Rattle.nodes.specs.Source.{Source, totalOf, gatesOf}
 use Rattle.nodes.specs.Own.{ownStep}
 use Rattle.nodes.specs.Recipe.{recipe}
 use Rattle.lowering.specs.Lower.{Run, run, start, lowered, sums, conRecords, ended, lowerClear, lowerAsked, lowerAll, Accepted, number, countsOf}
 use Rattle.nodes.specs.Meaning.{meaning}
-use Rattle.nodes.specs.Asked.{coreAt}
-use Rattle.lowering.specs.Promise.{said, Right, Bounded, Promise}
+use Rattle.lowering.specs.Promise.{said, Right, Promise}
 use Rattle.nodes.proofs.ShapeLaws.{shape}
 use Rattle.lowering.proofs.StartLaws.{starts}
-use Rattle.lowering.proofs.SmallLaws.{done, refused}
-use Rattle.lowering.proofs.Demands as demands
+use Rattle.lowering.proofs.SmallLaws as demand3
 use Rattle.lowering.proofs.RightLower as demand2
 use Rattle.nodes.proofs.WordFacts.{clash}
 use Rattle.lowering.proofs.VisitFacts.{own-steps}
 
--- a lowering that was done: the table was accepted, nothing stopped it, and this is what the buffers hold
+-- a lowering that was done: the table was accepted, and this is what the buffers hold
 pub record Finished (S : Source) (g c m : List ℕ) (n k : ℕ) (r : Run) : Type 0 where
   pub accepted : Accepted S g c m
-  pub runs : lowered S g c .core .stop ≡ 0
   pub count : lowered S g c .core .net .n ≡ n
   pub asks : lowered S g c .core .nc ≡ k
   pub gates : r .gates ≡ lowered S g c .core .net .gates
@@ -53,12 +45,10 @@ module _ (S : Source) (g c m : List ℕ) (n k : ℕ) where
   abbrev pub Ends : Run → Type 0
   Ends r = r .answer ≡ Done n k → Finished S g c m n k r
 
-  finished-end : Accepted S g c m → Ends (ended S g c m (lowered S g c))
+  finished-end : Accepted S g c m → Ends (ended S m (lowered S g c))
   unfolding ended
-  finished-end a =
-      by-pick Ends (eqb (lowered S g c .core .stop) 0) _ _
-      (λ z e. record { accepted = a; runs = eqb-true (lowered S g c .core .stop) 0 z; count = ap (λ (x : Answer). countsOf x .gates) e; asks = ap (λ (x : Answer). countsOf x .constraints) e; gates = refl; cons = refl; map = refl })
-      (λ _ e. clash (sym (ap (λ (x : Answer). countsOf x .done) e)))
+  finished-end a e =
+      record { accepted = a; count = ap (λ (x : Answer). countsOf x .gates) e; asks = ap (λ (x : Answer). countsOf x .constraints) e; gates = refl; cons = refl; map = refl }
 
   finished-clear : tableFault (S .table) (S .addrs) (S .word) ≡ Clear → asks (S .table) ≡ true → Ends (lowerClear S g c m)
   unfolding lowerClear
@@ -102,38 +92,23 @@ module _ (S : Source) (g c m : List ℕ) (n k : ℕ) (g′ c′ m′ : List ℕ)
 
   said-core : said S g′ c′ m′ n k [] .core ≡ lowered S g c .core
   said-core =
-      let t : Core = lowered S g c .core in
-      rw (f .gates, f .cons, map-back, ← f .count, ← f .asks) (ap {B = Core} (λ (x : ℕ). coreAt (t .net) (t .cons) (t .nc) (t .map) x) (sym (f .runs)))
+      rw (f .gates, f .cons, map-back, ← f .count, ← f .asks)
 
   finished-right : Right S (said S g′ c′ m′ n k [])
   finished-right v e =
-      let t : Lowered (recipe S) (meaning S (evalWords (S .table) (S .addrs) (S .word) v .values)) (lowered S g c) = demand2.right S g c m (f .accepted) (f .runs) v e in
+      let t : Lowered (recipe S) (meaning S (evalWords (S .table) (S .addrs) (S .word) v .values)) (lowered S g c) = demand2.right S g c m (f .accepted) v e in
       subst (λ (x : Core). Lowered (recipe S) (meaning S (evalWords (S .table) (S .addrs) (S .word) v .values)) (record { core = x; seen = [] })) (sym said-core)
-      (record { right = t .right; exists = t .exists; one = t .one; none = t .none })
+      (record { right = t .right; exists = t .exists; one = t .one })
 
   finished-small : (z : List ℕ) × Small (recipe S) (start S g c) (said S g′ c′ m′ n k z)
   finished-small = (
     lowered S g c .seen,
-    subst (λ (x : Core). Small (recipe S) (start S g c) (record { core = x; seen = lowered S g c .seen })) (sym said-core) (demands.small S g c m (f .accepted) (f .runs)),
+    subst (λ (x : Core). Small (recipe S) (start S g c) (record { core = x; seen = lowered S g c .seen })) (sym said-core) (demand3.small S g c m (f .accepted)),
   )
 
 -- each node adds at most its ceiling
 each : (S : Source) → tableFault (S .table) (S .addrs) (S .word) ≡ Clear → (j : ℕ) (s : Core) → Is (recipe S) j → length (s .map) ≡ totalOf S → ownStep S j s .net .n ≤ s .net .n + gatesOf S j
-each S clear j s is mapped = go (ℕ-discrete (s .stop) 0)
-  where
-    law : OwnLaw (recipe S)
-    law = own-steps S clear
-
-    go : Dec (s .stop ≡ 0) → ownStep S j s .net .n ≤ s .net .n + gatesOf S j
-    go (yes run) = law .step j s is mapped run .frame .grows .upto
-    go (no ne) = omega (arith, ap (λ (t : Core). t .net .n) (law .idle j s ne))
-
-only-ten : (S : Source) (g c m : List ℕ) (a : Answer) → a ≡ lowerAll S g c m .answer → Accepted S g c m → (number a ≡ 0) ⊎ ((number a ≡ 10) × Halted (recipe S) (lowered S g c))
-only-ten S g c m a e h = go (ℕ-discrete (lowered S g c .core .stop) 0)
-  where
-    go : Dec (lowered S g c .core .stop ≡ 0) → (number a ≡ 0) ⊎ ((number a ≡ 10) × Halted (recipe S) (lowered S g c))
-    go (yes run) = inl (ap number (e ∙ done S g c m h run))
-    go (no ne) = inr (ap number (e ∙ refused S g c m h ne), demands.halted S g c m h ne)
+each S clear j s is mapped = own-steps S clear j s is mapped .frame .grows .upto
 
 pub promise : (S : Source) (g c m : List ℕ) (a : Answer) (g′ c′ m′ : List ℕ) → run a g′ c′ m′ ≡ lowerAll S g c m → Promise S g c m a g′ c′ m′
 promise S g c m a g′ c′ m′ e =
@@ -143,7 +118,7 @@ promise S g c m a g′ c′ m′ e =
       small =
           record {
             made = λ n k h. finished-small S g c m n k g′ c′ m′ a (held n k h);
-            refused = only-ten S g c m a (ap (λ (r : Run). r .answer) e);
+            done = λ h. ap (λ (r : Run). number (r .answer)) e ∙ ap number (demand3.done S g c m h);
             each = each S;
           };
     }

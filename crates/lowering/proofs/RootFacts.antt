@@ -14,7 +14,7 @@ use Rattle.netlist.specs.Record.{gate, put, Room}
 use Rattle.visits.specs.Flow.{Low, rootStep, lowerTo}
 use Rattle.visits.specs.Claims.{Start, left}
 use Rattle.visits.proofs.Roots.{start-left, start-fit}
-use Rattle.nodes.specs.declared.own.Progress.{Progress}
+use Rattle.division.specs.declared.constraint.Counts.{Counts}
 use Rattle.nodes.specs.Source.{Source, nodeOf, gatesOf}
 use Rattle.nodes.specs.Recipe.{recipe}
 use Rattle.lowering.specs.Lower.{start, UNREACHED}
@@ -47,8 +47,8 @@ unfolding lowerTo
 all-roots S s t i le ge e = let q : i ≡ nodes (S .table) + 1 = omega arith in rw q at e
 
 -- where it begins
-abbrev pub begun : Progress
-begun = record { at = record { n = 2 }; constraints = 0; stop = 0 }
+abbrev pub begun : Counts
+begun = record { at = record { n = 2 }; m = 0 }
 
 module _ (S : Source) (o g c m z : List ℕ) (h : Begins S o g c m z) where
   pub room-two : Room g 2

@@ -1,5 +1,4 @@
--- Where a table has no fault and the buffers have room for the sums, a lowering may begin; so it keeps demand 3, and is refused only where it
--- stopped at a divisor that is known to be zero.
+-- Where a table has no fault and the buffers have room for the sums, a lowering may begin; so it keeps demand 3.
 use mathlib.Core.Path.{_≡_, refl, ap, _∙_}
 use mathlib.Core.List.{List}
 use Prim.Native.Nat.{ℕ, zero, suc, _+_, _-_, _≤_}
@@ -88,7 +87,6 @@ module _ (S : Source) where
     unfolding start
     starts =
         record {
-          run = refl;
           mapped = length-replicate {A = ℕ} (totalOf S) UNREACHED;
           nodes = length-replicate {A = ℕ} (nodes (S .table) + 1) 0;
           none = λ k. nothing (nodes (S .table) + 1) k;

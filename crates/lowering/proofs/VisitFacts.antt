@@ -25,12 +25,12 @@ use Rattle.nodes.specs.Asked.{Stands, Owns}
 use Rattle.lowering.specs.Visit.{Goes, Visits, Enters}
 use Rattle.nodes.proofs.ShapeLaws.{shape}
 use Rattle.nodes.proofs.OwnLaws.{own-law}
-use Rattle.nodes.proofs.Owed.{reads-owed, writes-owed, divides-owed, known-owed}
+use Rattle.nodes.proofs.Owed.{reads-owed, writes-owed}
 use Rattle.nodes.proofs.Facts.{cond-asks, second-path, third-path}
 
 -- the law of every own step, with nothing left to owe
 pub own-steps : (S : Source) → tableFault (S .table) (S .addrs) (S .word) ≡ Clear → OwnLaw (recipe S)
-own-steps S clear = own-law S clear (reads-owed S clear) (writes-owed S clear) divides-owed known-owed
+own-steps S clear = own-law S clear (reads-owed S clear) (writes-owed S clear)
 
 pub goes-less : {S : Source} {o : List ℕ} {e f : ℕ} {s : Low} → Goes S o e f s → Goes S o 0 0 s
 goes-less h =

@@ -1,9 +1,9 @@
--- The lowering: refusals 1 to 6, then 14, then 7, 8, 9, then 10; on success gates, constraints and bit map.
+-- The lowering: refusals 1 to 6, then 14, then 7, 8, 9; on success gates, constraints and bit map.
 use mathlib.Core.Path.{_≡_}
 use mathlib.Core.List.{List, _++_}
 use mathlib.Core.Bool.{Bool, true, false}
 use Prim.Native.Nat.{ℕ, _+_, _/_, _≤_}
-use lib.Dec.{eqb, ltb}
+use lib.Dec.{ltb}
 use lib.ListN.{length, drop, replicate}
 use Rattle.loops.specs.Loop.{pick}
 use Rattle.table.specs.Node.{nodes}
@@ -16,7 +16,7 @@ use Rattle.netlist.specs.Record.{gate, put, records}
 use Rattle.visits.specs.Flow.{Low, lowerTo}
 use Rattle.lowering.specs.declared.lower.Answer.{Answer}
 use Rattle.lowering.specs.declared.lower.Counts.{Counts}
-use Rattle.lowering.specs.declared.lower.Answer.the-variants.{Done, Table, NothingAsked, GateRoom, BitRoom, ConstraintRoom, ZeroDivisor}
+use Rattle.lowering.specs.declared.lower.Answer.the-variants.{Done, Table, NothingAsked, GateRoom, BitRoom, ConstraintRoom}
 use Rattle.nodes.specs.Source.{Source, listed, totalOf}
 use Rattle.nodes.specs.Recipe.{recipe}
 
@@ -28,7 +28,6 @@ number NothingAsked = 14
 number GateRoom = 7
 number BitRoom = 8
 number ConstraintRoom = 9
-number (ZeroDivisor k) = 10
 
 abbrev pub node : Answer → ℕ
 node (Done g c) = 0
@@ -37,7 +36,6 @@ node NothingAsked = 0
 node GateRoom = 0
 node BitRoom = 0
 node ConstraintRoom = 0
-node (ZeroDivisor k) = k
 
 -- an answer taken apart: whether the lowering is done, and how many gates and constraints it then has
 abbrev pub countsAt : Bool → ℕ → ℕ → Counts
@@ -50,7 +48,6 @@ countsOf NothingAsked = countsAt false 0 0
 countsOf GateRoom = countsAt false 0 0
 countsOf BitRoom = countsAt false 0 0
 countsOf ConstraintRoom = countsAt false 0 0
-countsOf (ZeroDivisor k) = countsAt false 0 0
 
 -- what is answered, and what the three lent buffers then hold
 pub record Run : Type 0 where
@@ -76,7 +73,6 @@ start S g c =
             cons = c;
             nc = 0;
             map = replicate (totalOf S) UNREACHED;
-            stop = 0;
           };
       seen = replicate (nodes (S .table) + 1) 0;
     }
@@ -85,16 +81,9 @@ start S g c =
 abbrev pub lowered : Source → List ℕ → List ℕ → Low
 lowered S g c = lowerTo (recipe S) (start S g c)
 
--- all zero from end to end
-abbrev pub zeros : List ℕ → List ℕ
-zeros l = replicate (length l) 0
-
--- 10, or done: beyond the used part the map is as before
-unfoldable pub ended : Source → List ℕ → List ℕ → List ℕ → Low → Run
-ended S g c m t =
-    pick (eqb (t .core .stop) 0)
-    (run (Done (t .core .net .n) (t .core .nc)) (t .core .net .gates) (t .core .cons) (t .core .map ++ drop (totalOf S) m))
-    (run (ZeroDivisor (t .core .stop)) (zeros g) (zeros c) (zeros m))
+-- done: beyond the used part the map is as before
+unfoldable pub ended : Source → List ℕ → Low → Run
+ended S m t = run (Done (t .core .net .n) (t .core .nc)) (t .core .net .gates) (t .core .cons) (t .core .map ++ drop (totalOf S) m)
 
 -- whole constraints lent
 abbrev pub conRecords : List ℕ → ℕ
@@ -110,13 +99,13 @@ lowerClear S g c m =
     pick (ltb (records g) (sums S .gates)) (run GateRoom g c m)
     (pick (ltb (length m) (sums S .map)) (run BitRoom g c m)
     (pick (ltb (conRecords c) (sums S .constraints)) (run ConstraintRoom g c m)
-    (ended S g c m (lowered S g c))))
+    (ended S m (lowered S g c))))
 
 -- 14 NOTHING ASKED: no node is bad
 unfoldable pub lowerAsked : Source → List ℕ → List ℕ → List ℕ → Run
 lowerAsked S g c m = pick (asks (S .table)) (lowerClear S g c m) (run NothingAsked g c m)
 
--- 1 to 6 first; every refusal but 10 changes nothing
+-- 1 to 6 first; no refusal changes anything
 unfoldable pub lowerAll : Source → List ℕ → List ℕ → List ℕ → Run
 lowerAll S g c m =
     pick (isClear (tableFault (S .table) (S .addrs) (S .word))) (lowerAsked S g c m)
@@ -130,7 +119,6 @@ marked S g c z NothingAsked = z
 marked S g c z GateRoom = z
 marked S g c z BitRoom = z
 marked S g c z ConstraintRoom = z
-marked S g c z (ZeroDivisor k) = lowered S g c .seen ++ drop (nodes (S .table) + 1) z
 
 -- a table is accepted and asks something, and the lent buffers have room for the sums
 pub record Accepted (S : Source) (g c m : List ℕ) : Type 0 where

@@ -9,17 +9,17 @@ use Rattle.table.specs.Node.{nodes}
 use Rattle.table.specs.Sheet.{tableFault}
 use Rattle.table.specs.Size.{Offsets}
 use Rattle.netlist.specs.Record.{Room, records}
+use Rattle.division.specs.declared.constraint.Counts.{Counts}
 use Rattle.division.specs.Constraint.{conUsed}
 use Rattle.visits.specs.Flow.{Low, enter, visitTo}
 use Rattle.visits.specs.Claims.{left}
-use Rattle.nodes.specs.declared.own.Progress.{Progress}
 use Rattle.nodes.specs.Source.{Source, listed, totalOf, gatesOf, asksOf}
 use Rattle.nodes.specs.Recipe.{recipe}
 use Rattle.nodes.specs.Asked.{coreOf}
 use Rattle.lowering.specs.Lower.{sums, conRecords}
 
--- the state that the buffers, the marks and the progress say
-abbrev pub lowOf : List ℕ → List ℕ → List ℕ → List ℕ → Progress → Low
+-- the state that the buffers and the marks say, with the places of the next gate and the next constraint
+abbrev pub lowOf : List ℕ → List ℕ → List ℕ → List ℕ → Counts → Low
 lowOf g c m z p = record { core = coreOf g c m p; seen = z }
 
 -- a table without fault, over a state with room for e gates, for f constraints, and for the ceilings of all nodes not seen

@@ -1,4 +1,4 @@
-// The lowering of any table: refusals 1 to 6, then 14, then 7, 8, 9, then 10; on success gates, constraints and bit map.
+// The lowering of any table: refusals 1 to 6, then 14, then 7, 8, 9; on success gates, constraints and bit map.
 ghost use mathlib.Core.Path.{_≡_};
 ghost use mathlib.Core.Bool.{true};
 ghost use Prim.Native.Nat.{_≤_};
@@ -9,7 +9,6 @@ ghost use Rattle.nodes.specs.Source.{source};
 ghost use Rattle.lowering.specs.Lower as spec;
 ghost use Rattle.lowering.specs.Lower.{run, lowered, ended, lowerClear, marked, Accepted};
 ghost use Rattle.lowering.specs.Promise.{Promise};
-use crate::fill::fill;
 use crate::root::lower_roots;
 use netlist::record;
 use table::Fault;
@@ -23,7 +22,6 @@ pub enum Answer {
     GateRoom,
     BitRoom,
     ConstraintRoom,
-    ZeroDivisor(usize),
 }
 
 // An answer's number on the refusal sheet; 0 is no refusal.
@@ -37,7 +35,6 @@ pub fn number(a: Answer) -> u64
         Answer::GateRoom => 7,
         Answer::BitRoom => 8,
         Answer::ConstraintRoom => 9,
-        Answer::ZeroDivisor(_) => 10,
     }
 }
 
@@ -52,7 +49,6 @@ pub fn node(a: Answer) -> usize
         Answer::GateRoom => 0,
         Answer::BitRoom => 0,
         Answer::ConstraintRoom => 0,
-        Answer::ZeroDivisor(k) => k,
     }
 }
 
@@ -100,15 +96,10 @@ pub fn count(a: Answer) -> Counts
             gates: 0,
             constraints: 0,
         },
-        Answer::ZeroDivisor(_) => Counts {
-            done: false,
-            gates: 0,
-            constraints: 0,
-        },
     }
 }
 
-// With room for the sums. Where the lowering stopped, the three buffers are left all zero.
+// With room for the sums.
 fn lower_room(
     table: &[u64],
     addrs: &[u64],
@@ -121,7 +112,7 @@ fn lower_room(
 ) -> Answer
     requires { ⌜ Accepted (source (now table) (now addrs) word) (now gates) (now constraints) (now map) ⌝ }
     requires { ⌜ (514 ≤ length (now offs)) × (513 ≤ length (now marks)) ⌝ }
-    ensures { λ r. ⌜ run r (now (gates .exit)) (now (constraints .exit)) (now (map .exit)) ≡ ended (source (now (table .entry)) (now (addrs .entry)) word) (now (gates .entry)) (now (constraints .entry)) (now (map .entry)) (lowered (source (now (table .entry)) (now (addrs .entry)) word) (now (gates .entry)) (now (constraints .entry))) ⌝ }
+    ensures { λ r. ⌜ run r (now (gates .exit)) (now (constraints .exit)) (now (map .exit)) ≡ ended (source (now (table .entry)) (now (addrs .entry)) word) (now (map .entry)) (lowered (source (now (table .entry)) (now (addrs .entry)) word) (now (gates .entry)) (now (constraints .entry))) ⌝ }
     ensures { λ r. ⌜ now (marks .exit) ≡ marked (source (now (table .entry)) (now (addrs .entry)) word) (now (gates .entry)) (now (constraints .entry)) (now (marks .entry)) r ⌝ }
 {
     let size = table.len() / 6 + 1;
@@ -137,16 +128,10 @@ fn lower_room(
         &mut map[..total],
         &mut marks[..size],
     );
-    if end.stop != 0 {
-        fill(gates, 0);
-        fill(constraints, 0);
-        fill(map, 0);
-        return Answer::ZeroDivisor(end.stop);
-    }
     let at = end.at;
     Answer::Done {
         gates: at.n,
-        constraints: end.constraints,
+        constraints: end.m,
     }
 }
 

@@ -10,10 +10,10 @@ ghost use Rattle.lowering.specs.Visit.{Goes, Begins, lowOf};
 use crate::fill::fill;
 use crate::fill::unmark;
 use crate::visit::visit;
+use division::constraint::Counts;
 use gates::made::At;
 use netlist::record::Gate;
 use netlist::record::put_gate;
-use nodes::own::Progress;
 use table::field::node_at;
 use table::kind::BAD;
 
@@ -31,8 +31,8 @@ fn root_step(
     map: &mut [u32],
     seen: &mut [u8],
     k: usize,
-    p: Progress,
-) -> Progress
+    p: Counts,
+) -> Counts
     requires { ⌜ Goes (source (now table) (now addrs) word) (now offs) 0 0 (lowOf (now gates) (now cons) (now map) (now seen) p) × (k ≤ nodes (now table)) ⌝ }
     ensures { λ r. ⌜ lowOf (now (gates .exit)) (now (cons .exit)) (now (map .exit)) (now (seen .exit)) r ≡ rootStep (recipe (source (now (table .entry)) (now (addrs .entry)) word)) k (lowOf (now (gates .entry)) (now (cons .entry)) (now (map .entry)) (now (seen .entry)) p) ⌝ }
 {
@@ -53,8 +53,8 @@ fn roots(
     cons: &mut [u32],
     map: &mut [u32],
     seen: &mut [u8],
-    p: Progress,
-) -> Progress
+    p: Counts,
+) -> Counts
     requires { ⌜ Goes (source (now table) (now addrs) word) (now offs) 0 0 (lowOf (now gates) (now cons) (now map) (now seen) p) ⌝ }
     ensures { λ r. ⌜ lowOf (now (gates .exit)) (now (cons .exit)) (now (map .exit)) (now (seen .exit)) r ≡ lowerTo (recipe (source (now (table .entry)) (now (addrs .entry)) word)) (lowOf (now (gates .entry)) (now (cons .entry)) (now (map .entry)) (now (seen .entry)) p) ⌝ }
 {
@@ -78,7 +78,7 @@ pub fn lower_roots(
     cons: &mut [u32],
     map: &mut [u32],
     seen: &mut [u8],
-) -> Progress
+) -> Counts
     requires { ⌜ Begins (source (now table) (now addrs) word) (now offs) (now gates) (now cons) (now map) (now seen) ⌝ }
     ensures { λ r. ⌜ lowOf (now (gates .exit)) (now (cons .exit)) (now (map .exit)) (now (seen .exit)) r ≡ lowerTo (recipe (source (now (table .entry)) (now (addrs .entry)) word)) (start (source (now (table .entry)) (now (addrs .entry)) word) (now (gates .entry)) (now (cons .entry))) ⌝ }
 {
@@ -105,10 +105,6 @@ pub fn lower_roots(
     fill(map, UNREACHED);
     unmark(seen);
     let at = At { n: 2 };
-    let p = Progress {
-        at,
-        constraints: 0,
-        stop: 0,
-    };
+    let p = Counts { at, m: 0 };
     roots(table, addrs, word, offs, gates, cons, map, seen, p)
 }

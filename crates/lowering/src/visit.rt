@@ -5,14 +5,14 @@ ghost use Rattle.visits.specs.Claims.{Is};
 ghost use Rattle.nodes.specs.Source.{source, gatesOf, asksOf};
 ghost use Rattle.nodes.specs.Recipe.{recipe};
 ghost use Rattle.lowering.specs.Visit.{Goes, Visits, Enters, lowOf};
+use division::constraint::Counts;
 use nodes::operand::condition;
 use nodes::operand::second;
 use nodes::operand::third;
-use nodes::own::Progress;
 use nodes::own::own_step;
 use table::field::node_at;
 
-// Node k and what it leans on, unless it is none, was seen, or the lowering has stopped.
+// Node k and what it leans on, unless it is none or was seen.
 pub fn visit(
     table: &[u64],
     addrs: &[u64],
@@ -23,14 +23,11 @@ pub fn visit(
     map: &mut [u32],
     seen: &mut [u8],
     k: usize,
-    p: Progress,
-) -> Progress
+    p: Counts,
+) -> Counts
     requires { ⌜ Goes (source (now table) (now addrs) word) (now offs) 0 0 (lowOf (now gates) (now cons) (now map) (now seen) p) × (k ≤ nodes (now table)) ⌝ }
     ensures { λ r. ⌜ Visits (source (now (table .entry)) (now (addrs .entry)) word) k (lowOf (now (gates .entry)) (now (cons .entry)) (now (map .entry)) (now (seen .entry)) p) (lowOf (now (gates .exit)) (now (cons .exit)) (now (map .exit)) (now (seen .exit)) r) ⌝ }
 {
-    if p.stop != 0 {
-        return p;
-    }
     if k == 0 {
         return p;
     }
@@ -41,7 +38,7 @@ pub fn visit(
     process(table, addrs, word, offs, gates, cons, map, seen, k, p)
 }
 
-// Node k, which is marked: first its operands, then its own gates. What a visit after a stop does is nothing.
+// Node k, which is marked: first its operands, then its own gates.
 fn process(
     table: &[u64],
     addrs: &[u64],
@@ -52,8 +49,8 @@ fn process(
     map: &mut [u32],
     seen: &mut [u8],
     k: usize,
-    p: Progress,
-) -> Progress
+    p: Counts,
+) -> Counts
     requires { ⌜ Goes (source (now table) (now addrs) word) (now offs) (gatesOf (source (now table) (now addrs) word) k) (asksOf (source (now table) (now addrs) word) k) (lowOf (now gates) (now cons) (now map) (now seen) p) × Is (recipe (source (now table) (now addrs) word)) k ⌝ }
     ensures { λ r. ⌜ Enters (source (now (table .entry)) (now (addrs .entry)) word) k (lowOf (now (gates .entry)) (now (cons .entry)) (now (map .entry)) (now (seen .entry)) p) (lowOf (now (gates .exit)) (now (cons .exit)) (now (map .exit)) (now (seen .exit)) r) ⌝ }
 {

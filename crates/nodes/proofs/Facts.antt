@@ -53,21 +53,21 @@ unfolding iter
 along g f F h zero a = refl
 along g f F h (suc n) a = h n (iter n f a) ∙ ap (F n) (along g f F h n a)
 
--- net and map put back among the constraints and the stop
-putBack : List ℕ → ℕ → ℕ → Word → Core
-putBack c nc stop x = coreAt (x .net) c nc (x .out) stop
+-- net and map put back among the constraints
+putBack : List ℕ → ℕ → Word → Core
+putBack c nc x = coreAt (x .net) c nc (x .out)
 
 module _ (S : Source) (k : ℕ) (f : ℕ → Word → Word) (F : ℕ → Core → Word) (same : (i : ℕ) (s : Core) → f i (asIs (s .net) (s .map)) ≡ F i s) where
-  placed-word : (c : List ℕ) (nc stop i : ℕ) (x : Word) → putBack c nc stop (placed (offOf S k) (wideOf S k) f i x) ≡ wordStep S k F i (putBack c nc stop x)
+  placed-word : (c : List ℕ) (nc i : ℕ) (x : Word) → putBack c nc (placed (offOf S k) (wideOf S k) f i x) ≡ wordStep S k F i (putBack c nc x)
   unfolding putBack placed wordStep stored
-  placed-word c nc stop i x =
-      ap {B = Core} (λ (y : Word). coreAt (y .net) c nc (putBits (offOf S k + i * wideOf S k) (y .out) (wideOf S k) (x .out)) stop) (same i (coreAt (x .net) c nc (x .out) stop))
+  placed-word c nc i x =
+      ap {B = Core} (λ (y : Word). coreAt (y .net) c nc (putBits (offOf S k + i * wideOf S k) (y .out) (wideOf S k) (x .out))) (same i (coreAt (x .net) c nc (x .out)))
 
   pub words-turn : (p : Place) (s : Net) (m : List ℕ) (s′ : Net) (m′ : List ℕ) → p ≡ placeOf S k → asIs s′ m′ ≡ iter (p .words) (placed (p .off) (p .wide) f) (asIs s m) → Turned (eachWord S k F) s m s′ m′
   unfolding putBack
-  words-turn p s m s′ m′ h e = λ c nc stop.
-      ap (putBack c nc stop) (e ∙ ap (λ (q : Place). iter (q .words) (placed (q .off) (q .wide) f) (asIs s m)) h)
-      ∙ along (putBack c nc stop) (placed (offOf S k) (wideOf S k) f) (wordStep S k F) (placed-word c nc stop) (wordsOf S k) (asIs s m)
+  words-turn p s m s′ m′ h e = λ c nc.
+      ap (putBack c nc) (e ∙ ap (λ (q : Place). iter (q .words) (placed (q .off) (q .wide) f) (asIs s m)) h)
+      ∙ along (putBack c nc) (placed (offOf S k) (wideOf S k) f) (wordStep S k F) (placed-word c nc) (wordsOf S k) (asIs s m)
 
 -- a node's place is within the map
 pub place-within : (S : Source) (o : List ℕ) (long k x : ℕ) → Stands S o long k → 1 ≤ x → x ≤ k → offOf S x + wordsOf S x * wideOf S x ≤ long
@@ -130,16 +130,16 @@ share-asks S o long k x p q h some less same e f =
     } in
     rw (e, f) i
 
-share-along : (S : Source) (k a x : ℕ) (s : Net) (c : List ℕ) (nc stop i : ℕ) (m : List ℕ)
-    → _≡_ {A = Core} (coreAt s c nc (shareAt a (offOf S x) (wideOf S x) (offOf S k) (wideOf S k) i m) stop) (wordStep S k (shareWord S a x) i (coreAt s c nc m stop))
+share-along : (S : Source) (k a x : ℕ) (s : Net) (c : List ℕ) (nc i : ℕ) (m : List ℕ)
+    → _≡_ {A = Core} (coreAt s c nc (shareAt a (offOf S x) (wideOf S x) (offOf S k) (wideOf S k) i m)) (wordStep S k (shareWord S a x) i (coreAt s c nc m))
 unfolding shareAt wordStep stored shareWord
-share-along S k a x s c nc stop i m = refl
+share-along S k a x s c nc i m = refl
 
 pub share-turn : (S : Source) (k a x : ℕ) (p q : Place) (m m′ : List ℕ) → p ≡ placeOf S k → q ≡ placeOf S x → m′ ≡ iter (p .words) (shareAt a (q .off) (q .wide) (p .off) (p .wide)) m
     → Mapped (eachWord S k (shareWord S a x)) m m′
-share-turn S k a x p q m m′ h j e = λ s c nc stop.
-    ap {B = Core} (λ (l : List ℕ). coreAt s c nc l stop) (rw (h, j) at e)
-    ∙ along {B = Core} (λ (l : List ℕ). coreAt s c nc l stop) (shareAt a (offOf S x) (wideOf S x) (offOf S k) (wideOf S k)) (wordStep S k (shareWord S a x)) (share-along S k a x s c nc stop) (wordsOf S k) m
+share-turn S k a x p q m m′ h j e = λ s c nc.
+    ap {B = Core} (λ (l : List ℕ). coreAt s c nc l) (rw (h, j) at e)
+    ∙ along {B = Core} (λ (l : List ℕ). coreAt s c nc l) (shareAt a (offOf S x) (wideOf S x) (offOf S k) (wideOf S k)) (wordStep S k (shareWord S a x)) (share-along S k a x s c nc) (wordsOf S k) m
 
 -- an ite's operands
 pub record Sided (S : Source) (k : ℕ) : Type 0 where
@@ -257,14 +257,14 @@ module _ (S : Source) (o : List ℕ) (long k : ℕ) (h : Stands S o long k) wher
       pub ite-known : d .kind ≡ ITE → (r : ℕ) → r ≡ pick (eqb (d .kind) ITE && eqb cond 0) (d .c) (d .b) → (b : Bool) → b ≡ isKnown cond → b ≡ true → (s : Net) (m′ : List ℕ)
           → Mapped (eachWord S k (shareWord S 0 r)) m m′ → Turned (iteOwn S k) s m s m′
       unfolding iteOwn
-      ite-known e r q b u t s m′ f = λ c nc stop.
-          rw (second-path r q) at (f s c nc stop)
+      ite-known e r q b u t s m′ f = λ c nc.
+          rw (second-path r q) at (f s c nc)
           ∙ sym (pick-true (isKnown (conditionOf S m k)) _ _ (rw (← cond-path e) (sym u ∙ t)))
 
       pub ite-open : d .kind ≡ ITE → (b : Bool) → b ≡ isKnown cond → b ≡ false → (s s′ : Net) (m′ : List ℕ) → Turned (eachWord S k (chooseWord S k)) s m s′ m′ → Turned (iteOwn S k) s m s′ m′
       unfolding iteOwn
-      ite-open e b u t s s′ m′ f = λ c nc stop.
-          f c nc stop
+      ite-open e b u t s s′ m′ f = λ c nc.
+          f c nc
           ∙ sym (pick-false (isKnown (conditionOf S m k)) _ _ (rw (← cond-path e) (sym u ∙ t)))
 
 -- and with an unknown one

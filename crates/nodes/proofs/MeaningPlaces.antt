@@ -12,7 +12,6 @@ use Rattle.table.specs.declared.Fault.the-variants.{Clear}
 use Rattle.table.specs.Node.{widthOf}
 use Rattle.table.specs.Sheet.{tableFault}
 use Rattle.table.proofs.Whole.{address-small, distinct, within, fine}
-use Rattle.values.specs.Eval.{slots}
 use Rattle.memory.specs.Address.{Listed}
 use Rattle.nodes.specs.Source.{Source, listed, wideOf, offOf, wordAt}
 

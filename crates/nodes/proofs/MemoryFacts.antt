@@ -227,11 +227,11 @@ module _ (S : Source) (o g : List ℕ) (a : At) (long k : ℕ) (h : Makes S o g 
       shared : List ℕ → List ℕ
       shared m = iter (wordsOf S k) (shareAt 0 (offOf S (nodeOf S k .a)) (wideOf S (nodeOf S k .a)) (offOf S k) (wideOf S k)) m
 
-      write-same : (s : Net) (m c : List ℕ) (nc stop : ℕ)
+      write-same : (s : Net) (m c : List ℕ) (nc : ℕ)
           → (let x : Word = writeAt (S .addrs) (offOf S (nodeOf S k .a)) (offOf S (nodeOf S k .b)) (offOf S (nodeOf S k .c)) (offOf S k) (wideOf S k) (asIs s m) in
-          coreAt (x .net) c nc (x .out) stop ≡ written m (coreAt s c nc (shared m) stop))
+          coreAt (x .net) c nc (x .out) ≡ written m (coreAt s c nc (shared m)))
       unfolding writeAt written shared stored
-      write-same s m c nc stop =
+      write-same s m c nc =
           rw (
             own-wide,
             memory-wide S (nodeOf S k .a) (ruled .1),
@@ -244,7 +244,7 @@ module _ (S : Source) (o g : List ℕ) (a : At) (long k : ℕ) (h : Makes S o g 
       pub write-turn : (s : Net) (m : List ℕ) (s′ : Net) (m′ : List ℕ)
           → asIs s′ m′ ≡ writeAt (S .addrs) (getD o (d .a) 0) (getD o (d .b) 0) (getD o (d .c) 0) (p .off) (p .wide) (asIs s m) → Turned (writeOwn S k) s m s′ m′
       unfolding writeOwn written shared
-      write-turn s m s′ m′ u = λ c nc stop.
-          ap {B = Core} (λ (x : Word). coreAt (x .net) c nc (x .out) stop) (rw (q, a-at, b-at, c-at) at u)
-          ∙ write-same s m c nc stop
-          ∙ ap (written m) (share-turn S k 0 (nodeOf S k .a) (placeOf S k) (placeOf S (nodeOf S k .a)) m (shared m) refl refl refl s c nc stop)
+      write-turn s m s′ m′ u = λ c nc.
+          ap {B = Core} (λ (x : Word). coreAt (x .net) c nc (x .out)) (rw (q, a-at, b-at, c-at) at u)
+          ∙ write-same s m c nc
+          ∙ ap (written m) (share-turn S k 0 (nodeOf S k .a) (placeOf S k) (placeOf S (nodeOf S k .a)) m (shared m) refl refl refl s c nc)

@@ -25,7 +25,7 @@ use Rattle.visits.specs.Flow.{Core}
 use Rattle.visits.specs.Stored.{stored}
 use Rattle.visits.specs.Claims.{Is, Under, Step, Ready}
 use Rattle.visits.proofs.Stored.{room-after}
-use Rattle.nodes.specs.Source.{Source, listed, nodeOf, wordsOf, wideOf, bitsOf, offOf, totalOf, gatesOf, blockedOf, wordAt, allAt}
+use Rattle.nodes.specs.Source.{Source, listed, nodeOf, wordsOf, wideOf, bitsOf, offOf, totalOf, gatesOf, wordAt, allAt}
 use Rattle.nodes.specs.Own.{fresh, eachWord, shareWord, readWord, writeOwn}
 use Rattle.nodes.specs.Recipe.{recipe}
 use Rattle.nodes.proofs.Places.{Till, part-at, bits-words, off-inside, word-words, word-wide, memory-words, memory-wide, gates-of, all-below}
@@ -57,7 +57,7 @@ module _ (S : Source) (k : ℕ) (low : 1 ≤ k) where
   write-gates e = gates-of S k low ∙ top-write (listed S) (S .word) (nodeOf S k) (widthOf (S .table) (nodeOf S k .a)) e
 
 module _ (S : Source) (clear : tableFault (S .table) (S .addrs) (S .word) ≡ Clear) (k : ℕ) (is : Is (recipe S) k) (s : Core)
-    (mapped : length (s .map) ≡ totalOf S) (run : s .stop ≡ 0) (goes : blockedOf S (s .map) k ≡ false) where
+    (mapped : length (s .map) ≡ totalOf S) where
   abbrev A : ℕ
   A = nodeOf S k .a
 
@@ -72,7 +72,7 @@ module _ (S : Source) (clear : tableFault (S .table) (S .addrs) (S .word) ≡ Cl
 
   module _ (owed : ReadsOwed S) (e : nodeOf S k .kind ≡ READ) (v : nodeOf S k .width ≡ S .word) (va : widthOf (S .table) A ≡ 0) (vb : widthOf (S .table) B ≡ S .word) where
     some-a : 1 ≤ A
-    some-a = node S clear k is s mapped run goes .operands .a-used (rw e)
+    some-a = node S clear k is s mapped .operands .a-used (rw e)
 
     read-word : (i : ℕ) (x : Core) → Till (offOf S k) (s .map) (x .map) → WordOwes S k s x (gatesOf S k) (readWord S k i x)
     unfolding readWord
@@ -81,20 +81,20 @@ module _ (S : Source) (clear : tableFault (S .table) (S .addrs) (S .word) ≡ Cl
         (made-as (sym v ∙ sym (word-wide S k (omega (arith, big)))) (omega (arith, read-gates S k (is .low) e))
         (read-made (x .net) (listed S) (S .word) (S .addrs) (allAt S (x .map) A) (wordAt S (x .map) B 0) (owed (allAt S (x .map) A) (wordAt S (x .map) B 0) (x .net))))
         (λ b o. (
-          λ j l. all-below S A k b (s .map) (x .map) some-a (node S clear k is s mapped run goes .operands .a) till (reads-a S k s b o some-a) j (omega (arith, memory-bits S A some-a va)),
-          λ j l. word-b S clear k is s mapped run goes b (x .map) (rw e) (λ q. omega arith) (omega (arith, big)) till o j (omega (arith, word-wide S B (omega (arith, big)))),
+          λ j l. all-below S A k b (s .map) (x .map) some-a (node S clear k is s mapped .operands .a) till (reads-a S k s b o some-a) j (omega (arith, memory-bits S A some-a va)),
+          λ j l. word-b S clear k is s mapped b (x .map) (rw e) (λ q. omega arith) (omega (arith, big)) till o j (omega (arith, word-wide S B (omega (arith, big)))),
         ))
 
     pub read-step : Step (recipe S) k s (eachWord S k (readWord S k) s)
     read-step =
-        by-words S clear k is s mapped run goes (gatesOf S k) (readWord S k)
+        by-words S clear k is s mapped (gatesOf S k) (readWord S k)
         (let q : wordsOf S k * gatesOf S k ≡ 1 * gatesOf S k = ap (λ (n : ℕ). n * gatesOf S k) (word-words S k (omega (arith, big))) in omega arith)
         (λ i x _ till. read-word i x till)
 
   module _ (owed : WritesOwed S) (e : nodeOf S k .kind ≡ WRITE) (v : nodeOf S k .width ≡ 0) (va : widthOf (S .table) A ≡ 0) (vb : widthOf (S .table) B ≡ S .word)
       (vc : widthOf (S .table) C ≡ S .word) where
     old-a : 1 ≤ A
-    old-a = node S clear k is s mapped run goes .operands .a-used (rw e)
+    old-a = node S clear k is s mapped .operands .a-used (rw e)
 
     -- the old memory is shared
     shared : Core
@@ -103,8 +103,8 @@ module _ (S : Source) (clear : tableFault (S .table) (S .addrs) (S .word) ≡ Cl
     made : Made S k 0 s (wordsOf S k) shared
     unfolding shared
     made =
-        all-made S k 0 s (shareWord S 0 A) (fits S clear k is s mapped run goes)
-        (share-word S clear k is s mapped run goes 0 A old-a (node S clear k is s mapped run goes .operands .a) (same-words S k A (v ∙ sym va)) (λ b o. reads-a S k s b o old-a)
+        all-made S k 0 s (shareWord S 0 A) (fits S clear k is s mapped)
+        (share-word S clear k is s mapped 0 A old-a (node S clear k is s mapped .operands .a) (same-words S k A (v ∙ sym va)) (λ b o. reads-a S k s b o old-a)
         (λ b o two. omega arith))
 
     abbrev adr : List ℕ
@@ -147,11 +147,11 @@ module _ (S : Source) (clear : tableFault (S .table) (S .addrs) (S .word) ≡ Cl
 
     adr-below : (b : ℕ) → Reads S k s b → Below b adr (S .word)
     adr-below b o j l =
-        word-b S clear k is s mapped run goes b (s .map) (rw e) (λ q. omega arith) (omega (arith, big)) (λ i h. refl) o j (omega (arith, word-wide S B (omega (arith, big))))
+        word-b S clear k is s mapped b (s .map) (rw e) (λ q. omega arith) (omega (arith, big)) (λ i h. refl) o j (omega (arith, word-wide S B (omega (arith, big))))
 
     val-below : (b : ℕ) → Reads S k s b → Below b val (S .word)
     val-below b o j l =
-        word-c S clear k is s mapped run goes b (s .map) (rw e) (λ q. omega arith) (omega (arith, big)) (λ i h. refl) o j (omega (arith, word-wide S C (omega (arith, big))))
+        word-c S clear k is s mapped b (s .map) (rw e) (λ q. omega arith) (omega (arith, big)) (λ i h. refl) o j (omega (arith, word-wide S C (omega (arith, big))))
 
     under : (b : ℕ) → Below b (written .out) (listed S * S .word) → Under (recipe S) b (putBits (offOf S k) (written .out) (bitsOf S k) (shared .map)) k
     under b h j l = rw (put .there j l) (h j (omega (arith, bits)))
@@ -186,9 +186,7 @@ module _ (S : Source) (clear : tableFault (S .table) (S .addrs) (S .word) ≡ Cl
                 mapBelow = λ i l. put .below i l ∙ made .below i l;
                 mapAbove = λ i l. put .above i l ∙ made .above i (omega (arith, bits-words S k (is .low)));
               };
-          stops = λ ne. absurd (ne (made .stop ∙ run));
-          runs = λ _. goes;
-          formed = λ r _. (new-formed r .0, under (written .net .n) (new-formed r .1));
-          known = λ r _ g o. (new-known g o .0, made .count, under 2 (new-known g o .1));
-          asked = λ r _ i lo hi. absurd (omega (arith, made .count));
+          formed = λ r. (new-formed r .0, under (written .net .n) (new-formed r .1));
+          known = λ r g o. (new-known g o .0, made .count, under 2 (new-known g o .1));
+          asked = λ r i lo hi. absurd (omega (arith, made .count));
         }

@@ -1,16 +1,13 @@
--- The laws that the steps of reads, writes and divisions ask for hold of every table without fault.
+-- The laws that the steps of reads and writes ask for hold of every table without fault.
 use Prim.Native.Nat.{_≤_}
 use native.Mathlib.Omega.{arith}
 use Rattle.table.proofs.Whole.{within}
 use Rattle.words.proofs.NumLaws.{blank-long}
 use Rattle.memory.proofs.ReadLaws.{read-law}
 use Rattle.memory.proofs.WriteLaws.{write-law}
-use Rattle.division.proofs.DivideLaws.{div-law}
-use Rattle.division.proofs.KnownLaws.{known-law}
 use Rattle.nodes.specs.Source.{Source, listed}
 use Rattle.nodes.specs.Own.{fresh}
 use Rattle.nodes.proofs.MemoryLaws.{ReadsOwed, WritesOwed}
-use Rattle.nodes.proofs.DivisionLaws.{DividesOwed, KnownOwed}
 use Rattle.nodes.proofs.MeaningPlaces.{Sheeted, listed-good}
 
 module _ (S : Source) (clear : Sheeted S) where
@@ -23,9 +20,3 @@ module _ (S : Source) (clear : Sheeted S) where
 
   pub writes-owed : WritesOwed S
   writes-owed adr val mem s fits = write-law (listed S) (S .word) (S .addrs) adr val mem (listed-good S clear) (word-range .0) (word-range .1) fits s
-
-pub divides-owed : DividesOwed
-divides-owed w node n d s small = div-law w node n d s small
-
-pub known-owed : KnownOwed
-known-owed quotient w n d out fits = known-law quotient w n d out fits

@@ -15,11 +15,11 @@ use Rattle.table.proofs.Whole.{Sound, Rule, Extended, is-const, is-input, is-st
 use Rattle.values.proofs.Seen.{initial}
 use Rattle.netlist.specs.Net.{Net}
 use Rattle.visits.specs.Flow.{Core}
-use Rattle.nodes.specs.declared.own.Progress.{Progress}
+use Rattle.division.specs.declared.constraint.Counts.{Counts}
 use Rattle.nodes.specs.declared.place.Place.{Place}
-use Rattle.nodes.specs.Source.{Source, nodeOf, wordsOf, wideOf, offOf, blockedOf}
-use Rattle.nodes.specs.Own.{shares, eachWord, inputWord, shareWord, aboveOf, readWord, wordOwn, iteOwn, divideOwn, writeOwn, madeBy, ownStep}
-use Rattle.nodes.specs.Asked.{Stands, Makes, Owns, Plain, placeOf, coreAt, coreOf, Turned, Mapped}
+use Rattle.nodes.specs.Source.{Source, nodeOf, wordsOf, wideOf, offOf}
+use Rattle.nodes.specs.Own.{shares, eachWord, inputWord, shareWord, aboveOf, readWord, wordOwn, iteOwn, divideOwn, writeOwn, ownStep}
+use Rattle.nodes.specs.Asked.{Stands, Makes, Owns, Plain, placeOf, coreOf, Turned, Mapped}
 use Rattle.nodes.proofs.Places.{word-words, word-wide, sound-of, part-at}
 use Rattle.nodes.proofs.ShareLaws.{same-words}
 use Rattle.nodes.proofs.OwnKinds.{by-input, by-share, by-ite, by-divide, by-read, by-write, by-word}
@@ -69,8 +69,8 @@ module _ (S : Source) (k : ℕ) (node : Sound (S .table) (S .word) k) (g : given
   shared (is-write e v va vb vc) = clash (sym h ∙ rw e)
 
 -- a step that the kind comes to is the own step
-as-made : (S : Source) (k : ℕ) (f : Core → Core) → ((s : Core) → madeBy S k s ≡ f s) → (s : Net) (m : List ℕ) (s′ : Net) (m′ : List ℕ) → Turned f s m s′ m′ → Turned (madeBy S k) s m s′ m′
-as-made S k f same s m s′ m′ t = λ c nc stop. t c nc stop ∙ sym (same _)
+as-made : (S : Source) (k : ℕ) (f : Core → Core) → ((s : Core) → ownStep S k s ≡ f s) → (s : Net) (m : List ℕ) (s′ : Net) (m′ : List ℕ) → Turned f s m s′ m′ → Turned (ownStep S k) s m s′ m′
+as-made S k f same s m s′ m′ t = λ c nc. t c nc ∙ sym (same _)
 
 module _ (S : Source) (o : List ℕ) (long k : ℕ) (h : Stands S o long k) (d : Node) (same : d ≡ nodeOf S k) where
   kind : d .kind ≡ nodeOf S k .kind
@@ -83,19 +83,19 @@ module _ (S : Source) (o : List ℕ) (long k : ℕ) (h : Stands S o long k) (d :
   share-asks g e = rw same (shared S k (sound-of S (h .clear) k (h .is)) (rw same at g) (rw same at e) (sound-of S (h .clear) k (h .is) .sort))
 
   module _ (s : Net) (m : List ℕ) (s′ : Net) (m′ : List ℕ) where
-    pub input-made : given d ≡ true → Turned (eachWord S k (inputWord S k)) s m s′ m′ → Turned (madeBy S k) s m s′ m′
+    pub input-made : given d ≡ true → Turned (eachWord S k (inputWord S k)) s m s′ m′ → Turned (ownStep S k) s m s′ m′
     input-made g = as-made S k _ (λ t. by-input S k t (given-asks g)) s m s′ m′
 
-    pub ite-made : d .kind ≡ ITE → Turned (iteOwn S k) s m s′ m′ → Turned (madeBy S k) s m s′ m′
+    pub ite-made : d .kind ≡ ITE → Turned (iteOwn S k) s m s′ m′ → Turned (ownStep S k) s m s′ m′
     ite-made e = as-made S k _ (λ t. by-ite S k t (sym kind ∙ e)) s m s′ m′
 
-    pub read-made : d .kind ≡ READ → Turned (eachWord S k (readWord S k)) s m s′ m′ → Turned (madeBy S k) s m s′ m′
+    pub read-made : d .kind ≡ READ → Turned (eachWord S k (readWord S k)) s m s′ m′ → Turned (ownStep S k) s m s′ m′
     read-made e = as-made S k _ (λ t. by-read S k t (sym kind ∙ e)) s m s′ m′
 
-    pub write-made : d .kind ≡ WRITE → Turned (writeOwn S k) s m s′ m′ → Turned (madeBy S k) s m s′ m′
+    pub write-made : d .kind ≡ WRITE → Turned (writeOwn S k) s m s′ m′ → Turned (ownStep S k) s m s′ m′
     write-made e = as-made S k _ (λ t. by-write S k t (sym kind ∙ e)) s m s′ m′
 
-    pub word-made : Plain d → Turned (eachWord S k (wordOwn S k)) s m s′ m′ → Turned (madeBy S k) s m s′ m′
+    pub word-made : Plain d → Turned (eachWord S k (wordOwn S k)) s m s′ m′ → Turned (ownStep S k) s m s′ m′
     word-made p = as-made S k _ (λ t. by-word S k t (subst (λ (x : Node). Plain x) same p)) s m s′ m′
 
   -- what stands above the shared bits
@@ -129,10 +129,10 @@ module _ (S : Source) (o : List ℕ) (long k : ℕ) (h : Stands S o long k) (d :
     pub above-path : (m : List ℕ) → getD m (p .off + p .wide - 1) 0 ≡ aboveOf S m k
     above-path m = rw place (above-top m)
 
-  pub share-made : given d ≡ false → shares d ≡ true → (s : Net) (m m′ : List ℕ) (a : ℕ) → a ≡ aboveOf S m k → Mapped (eachWord S k (shareWord S a (d .a))) m m′ → Turned (madeBy S k) s m s m′
+  pub share-made : given d ≡ false → shares d ≡ true → (s : Net) (m m′ : List ℕ) (a : ℕ) → a ≡ aboveOf S m k → Mapped (eachWord S k (shareWord S a (d .a))) m m′ → Turned (ownStep S k) s m s m′
   share-made g e s m m′ a q t =
       as-made S k (λ (u : Core). eachWord S k (shareWord S (aboveOf S (u .map) k) (nodeOf S k .a)) u) (λ u. by-share S k u (rw same at g) (rw same at e)) s m s m′
-      (λ c nc stop. rw (q, same) at (t s c nc stop))
+      (λ c nc. rw (q, same) at (t s c nc))
 
 -- none of the kinds that are told before
 pub plainly : (d : Node) → given d ≡ false → shares d ≡ false → (d .kind ≡ ITE → ⊥) → divides (d .kind) ≡ false → (d .kind ≡ READ → ⊥) → (d .kind ≡ WRITE → ⊥) → Plain d
@@ -140,22 +140,9 @@ plainly d g h i v r w =
     record { given = g; shares = h; chooses = ne-eqb (d .kind) ITE i; divides = v; reads = ne-eqb (d .kind) READ r; writes = ne-eqb (d .kind) WRITE w }
 
 -- the room of a node's own gates
-pub makes : {S : Source} {o g c m : List ℕ} {k : ℕ} {p : Progress} → Owns S o k (coreOf g c m p) → Makes S o g (p .at) (length m) k
+pub makes : {S : Source} {o g c m : List ℕ} {k : ℕ} {p : Counts} → Owns S o k (coreOf g c m p) → Makes S o g (p .at) (length m) k
 makes h = record { stands = h .stands; room = (h .room, h .cap) }
 
--- the own step, path by path
-module _ (S : Source) (k : ℕ) (s : Core) where
-  pub own-stopped : (s .stop ≡ 0 → ⊥) → s ≡ ownStep S k s
-  unfolding ownStep
-  own-stopped h = sym (pick-false _ _ _ (ne-eqb (s .stop) 0 h))
-
-  pub own-blocked : s .stop ≡ 0 → blockedOf S (s .map) k ≡ true → coreAt (s .net) (s .cons) (s .nc) (s .map) k ≡ ownStep S k s
-  unfolding ownStep
-  own-blocked z b = sym (pick-true _ _ _ (eq-eqb (s .stop) 0 z) ∙ pick-true _ _ _ b)
-
-  pub own-made : s .stop ≡ 0 → blockedOf S (s .map) k ≡ false → (r : Core) → r ≡ madeBy S k s → r ≡ ownStep S k s
-  unfolding ownStep
-  own-made z b r e = e ∙ sym (pick-true _ _ _ (eq-eqb (s .stop) 0 z) ∙ pick-false _ _ _ b)
-
-  pub own-divided : s .stop ≡ 0 → blockedOf S (s .map) k ≡ false → (d : Node) → d ≡ nodeOf S k → divides (d .kind) ≡ true → (r : Core) → r ≡ divideOwn S k s → r ≡ ownStep S k s
-  own-divided z b d same v r e = own-made z b r (e ∙ sym (by-divide S k s (rw same at v)))
+-- the own step of a division
+pub own-divided : (S : Source) (k : ℕ) (s : Core) (d : Node) → d ≡ nodeOf S k → divides (d .kind) ≡ true → (r : Core) → r ≡ divideOwn S k s → r ≡ ownStep S k s
+own-divided S k s d same v r e = e ∙ sym (by-divide S k s (rw same at v))

@@ -1,127 +1,91 @@
 -- The law of a node's own step, by the line of the sorts under which the node stands.
 use mathlib.Core.Path.{_≡_, refl, sym, _∙_}
 use mathlib.Core.Logic.{_⊎_, inl, inr}
-use mathlib.Core.Bool.{true, false}
+use mathlib.Core.Bool.{true}
 use Prim.Native.Nat.{ℕ, _≤_, _<_}
 use native.Mathlib.Omega.{arith}
 use lib.Dec.{eqb}
 use lib.ListN.{length}
-use borrow.Author.Tests.{eqb-true, eqb-false, ne-eqb}
+use borrow.Author.Tests.{eqb-true, eqb-false}
 use Rattle.loops.specs.Loop.{pick}
-use Rattle.loops.proofs.Loop.{by-pick, pick-false}
+use Rattle.loops.proofs.Loop.{by-pick}
 use Rattle.table.specs.declared.Fault.the-variants.{Clear}
 use Rattle.table.specs.Kind.{STATE, SEXT, usesA}
 use Rattle.table.specs.Node.{nodeAt, widthOf, aOf, bOf, cOf}
 use Rattle.table.specs.Sheet.{tableFault}
 use Rattle.table.proofs.Whole.{Sound, Rule, Extended, is-const, is-input, is-state, is-not, is-bad, is-and, is-ext, is-eq, is-add, is-ite, is-sub, is-ult, is-mul, is-divu, is-rem, is-read, is-write, is-or, is-sll, is-srl, is-sext}
-use Rattle.gates.proofs.Laws.{grows-refl}
 use Rattle.visits.specs.Flow.{Core}
 use Rattle.visits.specs.Claims.{Is, Step, OwnLaw}
 use Rattle.visits.proofs.Marks.{positive}
-use Rattle.nodes.specs.Source.{Source, nodeOf, wordsOf, totalOf, gatesOf, blockedOf}
-use Rattle.nodes.specs.Own.{eachWord, shareWord, aboveOf, madeBy, ownStep}
+use Rattle.nodes.specs.Source.{Source, nodeOf, wordsOf, totalOf}
+use Rattle.nodes.specs.Own.{eachWord, shareWord, aboveOf, ownStep}
 use Rattle.nodes.specs.Recipe.{recipe}
 use Rattle.nodes.proofs.Places.{word-words, word-wide, sound-of}
 use Rattle.nodes.proofs.WordLaws.{Reads}
 use Rattle.nodes.proofs.StepLaws.{reads-a, word-a, one-word, const-word, not-word, and-word, add-word, sub-word, mul-word, or-word, sll-word, srl-word, eq-word, ult-word}
 use Rattle.nodes.proofs.ShareLaws.{same-words, input-step, share-step, ite-step}
 use Rattle.nodes.proofs.MemoryLaws.{ReadsOwed, WritesOwed, read-step, write-step}
-use Rattle.nodes.proofs.DivisionLaws.{DividesOwed, KnownOwed, divide-step}
+use Rattle.nodes.proofs.DivisionLaws.{divide-step}
 
-module _ (S : Source) (clear : tableFault (S .table) (S .addrs) (S .word) ≡ Clear) (reads : ReadsOwed S) (writes : WritesOwed S) (divided : DividesOwed) (known : KnownOwed) where
-  module _ (k : ℕ) (is : Is (recipe S) k) (s : Core) (mapped : length (s .map) ≡ totalOf S) (run : s .stop ≡ 0) where
-    module _ (goes : blockedOf S (s .map) k ≡ false) where
-      node : Sound (S .table) (S .word) k
-      node = sound-of S clear k is
+module _ (S : Source) (clear : tableFault (S .table) (S .addrs) (S .word) ≡ Clear) (reads : ReadsOwed S) (writes : WritesOwed S) where
+  module _ (k : ℕ) (is : Is (recipe S) k) (s : Core) (mapped : length (s .map) ≡ totalOf S) where
+    node : Sound (S .table) (S .word) k
+    node = sound-of S clear k is
 
-      -- a sext's operand is a word, and its top bit is among those that the node reads
-      over : (nodeOf S k .kind ≡ SEXT → 1 ≤ widthOf (S .table) (nodeOf S k .a)) → (b : ℕ) → Reads S k s b → 2 ≤ b → aboveOf S (s .map) k < b
-      unfolding aboveOf
-      over word b o two =
-          by-pick (λ (n : ℕ). n < b) (eqb (nodeOf S k .kind) SEXT) _ _
-          (λ z.
-          let e : nodeOf S k .kind ≡ SEXT = eqb-true (nodeOf S k .kind) SEXT z in
-          word-a S clear k is s mapped run goes b (s .map) (rw e) (word e) (λ i h. refl) o _ (omega (arith, word e, word-wide S (nodeOf S k .a) (word e))))
-          (λ _. omega arith)
+    -- a sext's operand is a word, and its top bit is among those that the node reads
+    over : (nodeOf S k .kind ≡ SEXT → 1 ≤ widthOf (S .table) (nodeOf S k .a)) → (b : ℕ) → Reads S k s b → 2 ≤ b → aboveOf S (s .map) k < b
+    unfolding aboveOf
+    over word b o two =
+        by-pick (λ (n : ℕ). n < b) (eqb (nodeOf S k .kind) SEXT) _ _
+        (λ z.
+        let e : nodeOf S k .kind ≡ SEXT = eqb-true (nodeOf S k .kind) SEXT z in
+        word-a S clear k is s mapped b (s .map) (rw e) (word e) (λ i h. refl) o _ (omega (arith, word e, word-wide S (nodeOf S k .a) (word e))))
+        (λ _. omega arith)
 
-      -- the first operand's bits are shared
-      share-first : 1 ≤ nodeOf S k .a → wordsOf S k ≡ wordsOf S (nodeOf S k .a) → (nodeOf S k .kind ≡ SEXT → 1 ≤ widthOf (S .table) (nodeOf S k .a))
-          → Step (recipe S) k s (eachWord S k (shareWord S (aboveOf S (s .map) k) (nodeOf S k .a)) s)
-      share-first some words word =
-          share-step S clear k is s mapped run goes (aboveOf S (s .map) k) (nodeOf S k .a) some (node .operands .a) words (λ b o. reads-a S k s b o some) (over word)
+    -- the first operand's bits are shared
+    share-first : 1 ≤ nodeOf S k .a → wordsOf S k ≡ wordsOf S (nodeOf S k .a) → (nodeOf S k .kind ≡ SEXT → 1 ≤ widthOf (S .table) (nodeOf S k .a))
+        → Step (recipe S) k s (eachWord S k (shareWord S (aboveOf S (s .map) k) (nodeOf S k .a)) s)
+    share-first some words word =
+        share-step S clear k is s mapped (aboveOf S (s .map) k) (nodeOf S k .a) some (node .operands .a) words (λ b o. reads-a S k s b o some) (over word)
 
-      -- an initial node has the state's sort
-      initial : nodeOf S k .kind ≡ STATE → (nodeOf S k .a ≡ 0 → ⊥) → (nodeOf S k .a ≡ 0) ⊎ (widthOf (S .table) (nodeOf S k .a) ≡ nodeOf S k .width)
-          → Step (recipe S) k s (eachWord S k (shareWord S (aboveOf S (s .map) k) (nodeOf S k .a)) s)
-      initial e ne (inl z) = absurd (ne z)
-      initial e ne (inr v) = share-first (positive (nodeOf S k .a) ne) (same-words S k (nodeOf S k .a) (sym v)) (λ z. absurd (omega arith))
+    -- an initial node has the state's sort
+    initial : nodeOf S k .kind ≡ STATE → (nodeOf S k .a ≡ 0 → ⊥) → (nodeOf S k .a ≡ 0) ⊎ (widthOf (S .table) (nodeOf S k .a) ≡ nodeOf S k .width)
+        → Step (recipe S) k s (eachWord S k (shareWord S (aboveOf S (s .map) k) (nodeOf S k .a)) s)
+    initial e ne (inl z) = absurd (ne z)
+    initial e ne (inr v) = share-first (positive (nodeOf S k .a) ne) (same-words S k (nodeOf S k .a) (sym v)) (λ z. absurd (omega arith))
 
-      -- an extension's operand is a word
-      extension : usesA (nodeOf S k .kind) ≡ true → Extended (nodeOf S k .width) (widthOf (S .table) (nodeOf S k .a))
-          → Step (recipe S) k s (eachWord S k (shareWord S (aboveOf S (s .map) k) (nodeOf S k .a)) s)
-      extension u v =
-          share-first (node .operands .a-used u) (word-words S k (omega (arith, v .word, v .wide)) ∙ sym (word-words S (nodeOf S k .a) (v .word))) (λ _. v .word)
+    -- an extension's operand is a word
+    extension : usesA (nodeOf S k .kind) ≡ true → Extended (nodeOf S k .width) (widthOf (S .table) (nodeOf S k .a))
+        → Step (recipe S) k s (eachWord S k (shareWord S (aboveOf S (s .map) k) (nodeOf S k .a)) s)
+    extension u v =
+        share-first (node .operands .a-used u) (word-words S k (omega (arith, v .word, v .wide)) ∙ sym (word-words S (nodeOf S k .a) (v .word))) (λ _. v .word)
 
-      made : Rule (S .word) (nodeAt (S .table) k) (widthOf (S .table) (aOf (S .table) k)) (widthOf (S .table) (bOf (S .table) k)) (widthOf (S .table) (cOf (S .table) k))
-          → Step (recipe S) k s (madeBy S k s)
-      unfolding madeBy pick
-      made (is-const e v i) = rw e (one-word S clear k is s mapped run goes v (λ i x t. const-word S clear k is s mapped run goes i x t e v))
-      made (is-input e) = rw e (input-step S clear k is s mapped run goes (rw e))
-      made (is-state e v) =
-          rw e
-          (by-pick (Step (recipe S) k s) (eqb (nodeOf S k .a) 0) _ _ (λ z. input-step S clear k is s mapped run goes (rw (e, z))) (λ z. initial e (eqb-false (nodeOf S k .a) 0 z) v))
-      made (is-not e v va) = rw e (one-word S clear k is s mapped run goes v (λ i x t. not-word S clear k is s mapped run goes i x t e v va))
-      made (is-bad e v va) = rw e (share-first (node .operands .a-used (rw e)) (same-words S k (nodeOf S k .a) (v ∙ sym va)) (λ z. omega arith))
-      made (is-and e v) = rw e (one-word S clear k is s mapped run goes (v .word) (λ i x t. and-word S clear k is s mapped run goes i x t v e))
-      made (is-ext e v) = rw e (extension (rw e) v)
-      made (is-eq e v) = rw e (one-word S clear k is s mapped run goes (omega (arith, v .one)) (λ i x t. eq-word S clear k is s mapped run goes i x t v e))
-      made (is-add e v) = rw e (one-word S clear k is s mapped run goes (v .word) (λ i x t. add-word S clear k is s mapped run goes i x t v e))
-      made (is-ite e va vb vc) = rw e (ite-step S clear k is s mapped run goes e va vb vc)
-      made (is-sub e v) = rw e (one-word S clear k is s mapped run goes (v .word) (λ i x t. sub-word S clear k is s mapped run goes i x t v e))
-      made (is-ult e v) = rw e (one-word S clear k is s mapped run goes (omega (arith, v .one)) (λ i x t. ult-word S clear k is s mapped run goes i x t v e))
-      made (is-mul e v) = rw e (one-word S clear k is s mapped run goes (v .word) (λ i x t. mul-word S clear k is s mapped run goes i x t v e))
-      made (is-or e v) = rw e (one-word S clear k is s mapped run goes (v .word) (λ i x t. or-word S clear k is s mapped run goes i x t v e))
-      made (is-sll e v) = rw e (one-word S clear k is s mapped run goes (v .word) (λ i x t. sll-word S clear k is s mapped run goes i x t v e))
-      made (is-srl e v) = rw e (one-word S clear k is s mapped run goes (v .word) (λ i x t. srl-word S clear k is s mapped run goes i x t v e))
-      made (is-sext e v) = rw e (extension (rw e) v)
-      made (is-divu e v) = rw e (divide-step S clear k is s mapped run goes divided known (rw e) v)
-      made (is-rem e v) = rw e (divide-step S clear k is s mapped run goes divided known (rw e) v)
-      made (is-read e v va vb) = rw e (read-step S clear k is s mapped run goes reads e v va vb)
-      made (is-write e v va vb vc) = rw e (write-step S clear k is s mapped run goes writes e v va vb vc)
-
-    -- where a divisor is known to be zero the lowering stops, and nothing else is done
-    stopped : blockedOf S (s .map) k ≡ true → Step (recipe S) k s (record { net = s .net; cons = s .cons; nc = s .nc; map = s .map; stop = k })
-    stopped b =
-        record {
-          frame =
-              record {
-                grows = grows-refl (s .net) (gatesOf S k);
-                consLong = refl;
-                consFrom = omega arith;
-                consUpto = omega arith;
-                consSame = λ i l. refl;
-                consRest = λ i l. refl;
-                mapLong = refl;
-                mapBelow = λ i l. refl;
-                mapAbove = λ i l. refl;
-              };
-          stops = λ _. (refl, b);
-          runs = λ z. absurd (omega (arith, is .low));
-          formed = λ r z. absurd (omega (arith, is .low));
-          known = λ r z g o. absurd (omega (arith, is .low));
-          asked = λ r z. absurd (omega (arith, is .low));
-        }
-
-    step : Step (recipe S) k s (ownStep S k s)
-    unfolding ownStep
-    step =
-        by-pick (Step (recipe S) k s) (eqb (s .stop) 0) _ _
-        (λ _. by-pick (Step (recipe S) k s) (blockedOf S (s .map) k) _ _ stopped (λ goes. made goes (sound-of S clear k is .sort)))
-        (λ ne. absurd (eqb-false (s .stop) 0 ne run))
-
-  idle : (k : ℕ) (s : Core) → (s .stop ≡ 0 → ⊥) → ownStep S k s ≡ s
-  unfolding ownStep
-  idle k s ne = pick-false _ _ _ (ne-eqb (s .stop) 0 ne)
+    made : Rule (S .word) (nodeAt (S .table) k) (widthOf (S .table) (aOf (S .table) k)) (widthOf (S .table) (bOf (S .table) k)) (widthOf (S .table) (cOf (S .table) k))
+        → Step (recipe S) k s (ownStep S k s)
+    unfolding ownStep pick
+    made (is-const e v i) = rw e (one-word S clear k is s mapped v (λ i x t. const-word S clear k is s mapped i x t e v))
+    made (is-input e) = rw e (input-step S clear k is s mapped (rw e))
+    made (is-state e v) =
+        rw e
+        (by-pick (Step (recipe S) k s) (eqb (nodeOf S k .a) 0) _ _ (λ z. input-step S clear k is s mapped (rw (e, z))) (λ z. initial e (eqb-false (nodeOf S k .a) 0 z) v))
+    made (is-not e v va) = rw e (one-word S clear k is s mapped v (λ i x t. not-word S clear k is s mapped i x t e v va))
+    made (is-bad e v va) = rw e (share-first (node .operands .a-used (rw e)) (same-words S k (nodeOf S k .a) (v ∙ sym va)) (λ z. omega arith))
+    made (is-and e v) = rw e (one-word S clear k is s mapped (v .word) (λ i x t. and-word S clear k is s mapped i x t v e))
+    made (is-ext e v) = rw e (extension (rw e) v)
+    made (is-eq e v) = rw e (one-word S clear k is s mapped (omega (arith, v .one)) (λ i x t. eq-word S clear k is s mapped i x t v e))
+    made (is-add e v) = rw e (one-word S clear k is s mapped (v .word) (λ i x t. add-word S clear k is s mapped i x t v e))
+    made (is-ite e va vb vc) = rw e (ite-step S clear k is s mapped e va vb vc)
+    made (is-sub e v) = rw e (one-word S clear k is s mapped (v .word) (λ i x t. sub-word S clear k is s mapped i x t v e))
+    made (is-ult e v) = rw e (one-word S clear k is s mapped (omega (arith, v .one)) (λ i x t. ult-word S clear k is s mapped i x t v e))
+    made (is-mul e v) = rw e (one-word S clear k is s mapped (v .word) (λ i x t. mul-word S clear k is s mapped i x t v e))
+    made (is-or e v) = rw e (one-word S clear k is s mapped (v .word) (λ i x t. or-word S clear k is s mapped i x t v e))
+    made (is-sll e v) = rw e (one-word S clear k is s mapped (v .word) (λ i x t. sll-word S clear k is s mapped i x t v e))
+    made (is-srl e v) = rw e (one-word S clear k is s mapped (v .word) (λ i x t. srl-word S clear k is s mapped i x t v e))
+    made (is-sext e v) = rw e (extension (rw e) v)
+    made (is-divu e v) = rw e (divide-step S clear k is s mapped (rw e) v)
+    made (is-rem e v) = rw e (divide-step S clear k is s mapped (rw e) v)
+    made (is-read e v va vb) = rw e (read-step S clear k is s mapped reads e v va vb)
+    made (is-write e v va vb vc) = rw e (write-step S clear k is s mapped writes e v va vb vc)
 
   pub own-law : OwnLaw (recipe S)
-  own-law = record { idle = idle; step = λ k s is mapped run. step k is s mapped run }
+  own-law k s is mapped = made k is s mapped (sound-of S clear k is .sort)

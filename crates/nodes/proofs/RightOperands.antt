@@ -8,7 +8,7 @@ use lib.Dec.{eqb}
 use lib.ListN.{getD}
 use Rattle.loops.specs.Loop.{bit}
 use Rattle.table.specs.Kind.{ITE, usesB, usesC}
-use Rattle.table.specs.Node.{nodes, widthOf, given}
+use Rattle.table.specs.Node.{widthOf, given}
 use Rattle.table.proofs.Whole.{Sound}
 use Rattle.netlist.specs.Net.{Assign}
 use Rattle.gates.specs.Law.{Ext}

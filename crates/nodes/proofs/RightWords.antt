@@ -1,14 +1,14 @@
 -- The law of values of a step that makes its node's words one after the other.
 use mathlib.Core.Path.{_≡_, refl, ap, sym, _∙_}
 use mathlib.Core.List.{List}
-use mathlib.Core.Bool.{Bool, true, false, _&&_}
+use mathlib.Core.Bool.{Bool, true, _&&_}
 use Prim.Native.Nat.{ℕ, suc, _+_, _-_, _*_, _≤_, _<_}
 use native.Mathlib.Omega.{arith}
 use native.Mathlib.Decide.{decLt}
 use lib.Dec.{eqb}
 use lib.ListN.{length, getD}
 use Rattle.loops.proofs.Loop.{by-pick, iter-inv}
-use Rattle.table.specs.Kind.{ITE, divides}
+use Rattle.table.specs.Kind.{ITE}
 use Rattle.netlist.specs.Record.{gateAt, Room}
 use Rattle.netlist.specs.Kind.{free}
 use Rattle.netlist.specs.Bit.{isKnown}
@@ -155,14 +155,13 @@ module _ (S : Source) (x : List ℕ) (k : ℕ) (val : ℕ → Bool) (s : Core) (
   pub words-made : WordsSay S x k val s (wordsOf S k) (eachWord S k f s)
   words-made = iter-inv (WordsSay S x k val s) (wordStep S k f) s (wordsOf S k) words-none words-next
 
-pub words-right : (S : Source) (x : List ℕ) (k : ℕ) (s : Core) (f : ℕ → Core → Word) → Sheeted S → Ready (recipe S) k s → divides (nodeOf S k .kind) ≡ false
+pub words-right : (S : Source) (x : List ℕ) (k : ℕ) (s : Core) (f : ℕ → Core → Word) → Sheeted S → Ready (recipe S) k s
     → ((i : ℕ) (t : Core) → i < wordsOf S k → OwnWord S x k (s .map) i t (f i t)) → StepRight (recipe S) (meaning S x) k s (eachWord S k f s)
-words-right S x k s f clear ready nd each =
+words-right S x k s f clear ready each =
     let w = words-made S x k (valueOf S x k) s f clear ready each in
     plain-right
     (record {
       asks = w .asks;
       only = w .only;
-      divides = λ e ce o. rw nd;
       right = λ e ce o j l. w .right e ce o j (rw (bits-words S k (ready .is .low)) at l);
     })

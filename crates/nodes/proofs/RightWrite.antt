@@ -190,6 +190,5 @@ module _ {S : Source} {x : List ℕ} (v : Evaluated S x) {k : ℕ} (writes : Wri
       (record {
         asks = old .asks;
         only = inputs-trans (s .net) (t .net) (y .net) (n * (5 * W - 1)) (L .ext .grows) (old .only) (inputs-bound (t .net) (y .net) (n * (5 * W - 1)) (L .ext));
-        divides = λ h ce o. rw e;
         right = λ h ce o j l. ap h (put-law (offOf S k) (y .out) (t .map) (bitsOf S k) fits .there j l) ∙ new-bits h ce o j l;
       })

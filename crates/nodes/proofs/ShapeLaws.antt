@@ -1,5 +1,5 @@
 -- The recipe of a table without fault has the shape that the visits ask.
-use mathlib.Core.Path.{_≡_, refl, ap, sym, _∙_}
+use mathlib.Core.Path.{_≡_, refl, ap}
 use mathlib.Core.List.{List}
 use mathlib.Core.Bool.{Bool, true, false, _&&_, false≢true}
 use Prim.Native.Nat.{ℕ, _+_, _*_, _≤_, _<_}
@@ -16,26 +16,10 @@ use Rattle.table.specs.Node.{widthOf}
 use Rattle.table.specs.Sheet.{tableFault}
 use Rattle.table.proofs.Whole.{Sound, Rule, Even, is-const, is-input, is-state, is-not, is-bad, is-and, is-ext, is-eq, is-add, is-ite, is-sub, is-ult, is-mul, is-divu, is-rem, is-read, is-write, is-or, is-sll, is-srl, is-sext}
 use Rattle.netlist.specs.Bit.{isKnown}
-use Rattle.digits.specs.Digits.{allKnown, knownBits, knownNumber}
-use Rattle.digits.proofs.Numbers.{number-same}
-use Rattle.digits.proofs.Words.{all-true, below-all}
 use Rattle.visits.specs.Claims.{Is, Same, Shape}
-use Rattle.nodes.specs.Source.{Source, nodeOf, wideOf, bitsOf, offOf, conditionOf, firstOf, secondOf, thirdOf, blockedOf, wordAt}
+use Rattle.nodes.specs.Source.{Source, nodeOf, wideOf, bitsOf, offOf, conditionOf, firstOf, secondOf, thirdOf, wordAt}
 use Rattle.nodes.specs.Recipe.{recipe}
 use Rattle.nodes.proofs.Places.{no-bits, off-apart, off-inside, sound-of, part-at, bits-words, word-words, word-wide}
-
--- words of the same bits are known alike, and then say one number
-module _ (A B : List ℕ) (w : ℕ) (same : (j : ℕ) → j < w → getD A j 0 ≡ getD B j 0) where
-  known-alike : allKnown w A ≡ allKnown w B
-  known-alike = go (allKnown w A) (allKnown w B) refl refl
-    where
-      go : (p q : Bool) → allKnown w A ≡ p → allKnown w B ≡ q → allKnown w A ≡ allKnown w B
-      go true q e f = e ∙ sym (below-all B w (λ j l. rw (← same j l) (all-true A w e j l)))
-      go false true e f = below-all A w (λ j l. rw (same j l) (all-true B w f j l)) ∙ sym f
-      go false false e f = e ∙ sym f
-
-  number-alike : knownNumber w A ≡ knownNumber w B
-  number-alike = number-same (knownBits A) (knownBits B) w (λ j l. ap (λ (b : ℕ). eqb b 1) (same j l))
 
 -- a division is a word over two of its width
 pub divided : {w : ℕ} {d : Node} {va vb vc : ℕ} → Rule w d va vb vc → divides (d .kind) ≡ true → Even (d .width) va vb
@@ -131,32 +115,6 @@ module _ (S : Source) (clear : tableFault (S .table) (S .addrs) (S .word) ≡ Cl
         go true e = rw (cond-same (eqb-true (nodeOf S k .kind) ITE e) same)
         go false e = refl
 
-    -- the divisor's bits are those that a division reads second
-    divisor-same : divides (nodeOf S k .kind) ≡ true → Same (recipe S) m t (secondOf S m k) → (j : ℕ) → j < wideOf S (nodeOf S k .b)
-        → getD (wordAt S t (nodeOf S k .b) 0) j 0 ≡ getD (wordAt S m (nodeOf S k .b) 0) j 0
-    divisor-same h same =
-        let n : Sound (S .table) (S .word) k = sound-of S clear k is in
-        let v : Even (nodeOf S k .width) (widthOf (S .table) (nodeOf S k .a)) (widthOf (S .table) (nodeOf S k .b)) = divided (n .sort) h in
-        let q : secondOf S m k ≡ nodeOf S k .b = second-else S m k (λ e. false≢true (rw e at h)) in
-        word-same S m t (nodeOf S k .b) (n .operands .b-used (divides-two (nodeOf S k .kind) h)) (omega (arith, v .word, v .right)) (rw q at same)
-
-    blocked-same : Same (recipe S) m t (secondOf S m k) → blockedOf S t k ≡ blockedOf S m k
-    unfolding blockedOf
-    blocked-same same = go (divides (nodeOf S k .kind)) refl
-      where
-        w : ℕ
-        w = wideOf S (nodeOf S k .b)
-
-        go : (b : Bool) → divides (nodeOf S k .kind) ≡ b
-            → (b && (allKnown w (wordAt S t (nodeOf S k .b) 0) && eqb (knownNumber w (wordAt S t (nodeOf S k .b) 0)) 0))
-            ≡ (b && (allKnown w (wordAt S m (nodeOf S k .b) 0) && eqb (knownNumber w (wordAt S m (nodeOf S k .b) 0)) 0))
-        go true e =
-            rw (
-              known-alike (wordAt S t (nodeOf S k .b) 0) (wordAt S m (nodeOf S k .b) 0) w (divisor-same e same),
-              number-alike (wordAt S t (nodeOf S k .b) 0) (wordAt S m (nodeOf S k .b) 0) w (divisor-same e same),
-            )
-        go false e = refl
-
   pub shape : Shape (recipe S)
   unfolding secondOf thirdOf
   shape =
@@ -167,7 +125,6 @@ module _ (S : Source) (clear : tableFault (S .table) (S .addrs) (S .word) ≡ Cl
         third = λ m k is. by-pick (λ x. x < k) _ _ _ (λ _. omega (arith, is .low)) (λ _. sound-of S clear k is .operands .c);
         second-same = second-same;
         third-same = third-same;
-        blocked-same = blocked-same;
         inside = λ k is. off-inside S k (is .low) (is .high);
         apart = λ x y lt _. off-apart S x y lt;
       }

@@ -20,7 +20,7 @@ use Rattle.netlist.proofs.BitLaws.{unknown-least}
 use Rattle.visits.specs.Flow.{Core}
 use Rattle.visits.specs.Claims.{Is, Under, Step}
 use Rattle.digits.specs.Digits.{Below}
-use Rattle.nodes.specs.Source.{Source, listed, nodeOf, wordsOf, wideOf, bitsOf, offOf, totalOf, gatesOf, conditionOf, secondOf, thirdOf, blockedOf, wordAt}
+use Rattle.nodes.specs.Source.{Source, listed, nodeOf, wordsOf, wideOf, bitsOf, offOf, totalOf, gatesOf, conditionOf, secondOf, thirdOf, wordAt}
 use Rattle.nodes.specs.Own.{eachWord, inputWord, shareWord, chooseWord, iteOwn}
 use Rattle.nodes.specs.Recipe.{recipe}
 use Rattle.nodes.proofs.Places.{Till, bits-words, bits-size, word-wide, gates-of, word-below}
@@ -57,7 +57,7 @@ module _ (S : Source) (m : List ℕ) (k : ℕ) (unknown : isKnown (conditionOf S
       go false = pick-false _ _ _ refl
 
 module _ (S : Source) (clear : tableFault (S .table) (S .addrs) (S .word) ≡ Clear) (k : ℕ) (is : Is (recipe S) k) (s : Core)
-    (mapped : length (s .map) ≡ totalOf S) (run : s .stop ≡ 0) (goes : blockedOf S (s .map) k ≡ false) where
+    (mapped : length (s .map) ≡ totalOf S) where
   -- an input or an uninitialised state
   input-word : given (nodeOf S k) ≡ true → (i : ℕ) (x : Core) → WordOwes S k s x (wideOf S k) (inputWord S k i x)
   unfolding inputWord
@@ -71,7 +71,7 @@ module _ (S : Source) (clear : tableFault (S .table) (S .addrs) (S .word) ≡ Cl
 
   pub input-step : given (nodeOf S k) ≡ true → Step (recipe S) k s (eachWord S k (inputWord S k) s)
   input-step g =
-      by-words S clear k is s mapped run goes (wideOf S k) (inputWord S k)
+      by-words S clear k is s mapped (wideOf S k) (inputWord S k)
       (omega (arith, bits-words S k (is .low), bits-size S k (is .low), gates-of S k (is .low), top-given (listed S) (S .word) (nodeOf S k) (widthOf (S .table) (nodeOf S k .a)) g))
       (λ i x _ _. input-word g i x)
 
@@ -86,22 +86,22 @@ module _ (S : Source) (clear : tableFault (S .table) (S .addrs) (S .word) ≡ Cl
         (λ b o. (over b o, word-below S y k b (s .map) (x .map) some less till (reads b o) i (omega arith)))
 
     pub share-step : Step (recipe S) k s (eachWord S k (shareWord S a y) s)
-    share-step = by-words S clear k is s mapped run goes 0 (shareWord S a y) (omega arith) share-word
+    share-step = by-words S clear k is s mapped 0 (shareWord S a y) (omega arith) share-word
 
   -- a choice: its sides have the node's width
   module _ (ite : nodeOf S k .kind ≡ ITE) (va : widthOf (S .table) (nodeOf S k .a) ≡ 1) (vb : widthOf (S .table) (nodeOf S k .b) ≡ widthOf (S .table) k)
       (vc : widthOf (S .table) (nodeOf S k .c) ≡ widthOf (S .table) k) where
     some-b : 1 ≤ nodeOf S k .b
-    some-b = node S clear k is s mapped run goes .operands .b-used (rw ite)
+    some-b = node S clear k is s mapped .operands .b-used (rw ite)
 
     some-c : 1 ≤ nodeOf S k .c
-    some-c = node S clear k is s mapped run goes .operands .c-used (rw ite)
+    some-c = node S clear k is s mapped .operands .c-used (rw ite)
 
     less-b : nodeOf S k .b < k
-    less-b = node S clear k is s mapped run goes .operands .b
+    less-b = node S clear k is s mapped .operands .b
 
     less-c : nodeOf S k .c < k
-    less-c = node S clear k is s mapped run goes .operands .c
+    less-c = node S clear k is s mapped .operands .c
 
     chosen : (1 ≤ secondOf S (s .map) k) × (secondOf S (s .map) k < k) × (widthOf (S .table) k ≡ widthOf (S .table) (secondOf S (s .map) k))
     unfolding secondOf
@@ -119,7 +119,7 @@ module _ (S : Source) (clear : tableFault (S .table) (S .addrs) (S .word) ≡ Cl
           made-owes {s = s} {In = λ b. (j : ℕ) → j < wideOf S k → (cond < b) × (getD (wordAt S (x .map) (nodeOf S k .b) i) j 0 < b) × (getD (wordAt S (x .map) (nodeOf S k .c) i) j 0 < b)}
           (choose-made (x .net) cond (wordAt S (x .map) (nodeOf S k .b) i) (wordAt S (x .map) (nodeOf S k .c) i) (wideOf S k) (omega (arith, wide-small S clear k)))
           (λ b o j l. (
-            word-a S clear k is s mapped run goes b (x .map) (rw ite) (omega arith) till o 0 (omega (arith, word-wide S (nodeOf S k .a) (omega arith))),
+            word-a S clear k is s mapped b (x .map) (rw ite) (omega arith) till o 0 (omega (arith, word-wide S (nodeOf S k .a) (omega arith))),
             word-below S (nodeOf S k .b) k b (s .map) (x .map) some-b less-b till (under-b b o) i (omega (arith, same-words S (nodeOf S k .b) k vb)) j (omega (arith, same-wide S (nodeOf S k .b) k vb)),
             word-below S (nodeOf S k .c) k b (s .map) (x .map) some-c less-c till (under-c b o) i (omega (arith, same-words S (nodeOf S k .c) k vc)) j (omega (arith, same-wide S (nodeOf S k .c) k vc)),
           ))
@@ -138,7 +138,7 @@ module _ (S : Source) (clear : tableFault (S .table) (S .addrs) (S .word) ≡ Cl
       choose-gates = gates-of S k (is .low) ∙ top-ite (listed S) (S .word) (nodeOf S k) (widthOf (S .table) (nodeOf S k .a)) ite ∙ ap (λ (n : ℕ). 3 * n) (sym (bits-size S k (is .low)))
 
       choose-step : Step (recipe S) k s (eachWord S k (chooseWord S k) s)
-      choose-step = by-words S clear k is s mapped run goes (3 * wideOf S k) (chooseWord S k) (omega (arith, choose-gates, bits-words S k (is .low))) choose-word
+      choose-step = by-words S clear k is s mapped (3 * wideOf S k) (chooseWord S k) (omega (arith, choose-gates, bits-words S k (is .low))) choose-word
 
     pub ite-step : Step (recipe S) k s (iteOwn S k s)
     unfolding iteOwn

@@ -1,11 +1,11 @@
 -- The step of a node, kind by kind: from the laws of its words, with its operands' bits taken out of the map.
 use mathlib.Core.Path.{_≡_, refl, ap, sym, _∙_}
 use mathlib.Core.List.{List}
-use mathlib.Core.Bool.{true, false, not, _&&_}
+use mathlib.Core.Bool.{true, not, _&&_}
 use Prim.Native.Nat.{ℕ, _+_, _-_, _*_, _≤_, _<_}
 use native.Mathlib.Omega.{arith}
 use lib.Dec.{eqb, leb}
-use lib.ListN.{length, getD}
+use lib.ListN.{length}
 use borrow.Author.Tests.{eqb-true, le-leb, leb-true}
 use Rattle.loops.specs.Loop.{pick}
 use Rattle.loops.proofs.Loop.{by-pick, both, either}
@@ -27,7 +27,7 @@ use Rattle.words.specs.Each.{Word, bitBelow, bitCost, eachBit}
 use Rattle.words.specs.Shift.{shiftWords, shiftCost}
 use Rattle.visits.specs.Flow.{Core}
 use Rattle.visits.specs.Claims.{Is, Under, Step}
-use Rattle.nodes.specs.Source.{Source, nodeOf, wordsOf, wideOf, offOf, totalOf, gatesOf, blockedOf, wordAt}
+use Rattle.nodes.specs.Source.{Source, nodeOf, wordsOf, wideOf, offOf, totalOf, gatesOf, wordAt}
 use Rattle.nodes.specs.Own.{fresh, eachWord, plainWord, wordOwn}
 use Rattle.nodes.specs.Recipe.{recipe}
 use Rattle.nodes.proofs.Places.{Till, bits-words, off-inside, word-words, word-wide, sound-of, gates-of, word-below}
@@ -71,7 +71,7 @@ two-one k h =
     h
 
 module _ (S : Source) (clear : tableFault (S .table) (S .addrs) (S .word) ≡ Clear) (k : ℕ) (is : Is (recipe S) k) (s : Core)
-    (mapped : length (s .map) ≡ totalOf S) (run : s .stop ≡ 0) (goes : blockedOf S (s .map) k ≡ false) where
+    (mapped : length (s .map) ≡ totalOf S) where
   pub node : Sound (S .table) (S .word) k
   node = sound-of S clear k is
 
@@ -90,7 +90,7 @@ module _ (S : Source) (clear : tableFault (S .table) (S .addrs) (S .word) ≡ Cl
   -- from the law of each word
   pub by-words : (c : ℕ) (f : ℕ → Core → Word) → wordsOf S k * c ≤ gatesOf S k
       → ((i : ℕ) (x : Core) → i < wordsOf S k → Till (offOf S k) (s .map) (x .map) → WordOwes S k s x c (f i x)) → Step (recipe S) k s (eachWord S k f s)
-  by-words c f top each = each-step S k c s f fits each (bits-words S k (is .low)) run goes top
+  by-words c f top each = each-step S k c s f fits each (bits-words S k (is .low)) top
 
   -- a node that makes one word
   pub one-word : 1 ≤ nodeOf S k .width → ((i : ℕ) (x : Core) → Till (offOf S k) (s .map) (x .map) → WordOwes S k s x (gatesOf S k) (wordOwn S k i x))

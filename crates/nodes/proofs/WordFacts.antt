@@ -36,12 +36,12 @@ use Rattle.nodes.proofs.Facts.{word-in, part-first, offset}
 
 -- one word of the whole state
 module _ (S : Source) (k : ℕ) (F : ℕ → Core → Word) (one : wordsOf S k ≡ 1) where
-  one-turn : (s : Net) (m : List ℕ) (s′ : Net) (out m′ : List ℕ) → ((c : List ℕ) (nc stop : ℕ) → asIs s′ out ≡ F 0 (coreAt s c nc m stop)) → m′ ≡ putBits (offOf S k) out (wideOf S k) m
+  one-turn : (s : Net) (m : List ℕ) (s′ : Net) (out m′ : List ℕ) → ((c : List ℕ) (nc : ℕ) → asIs s′ out ≡ F 0 (coreAt s c nc m)) → m′ ≡ putBits (offOf S k) out (wideOf S k) m
       → Turned (eachWord S k F) s m s′ m′
   unfolding iter wordStep stored
-  one-turn s m s′ out m′ f e = λ c nc stop.
+  one-turn s m s′ out m′ f e = λ c nc.
       let z : offOf S k + 0 * wideOf S k ≡ offOf S k = omega arith in
-      rw (one, z, e) (ap {B = Core} (λ (y : Word). coreAt (y .net) c nc (putBits (offOf S k) (y .out) (wideOf S k) m) stop) (f c nc stop))
+      rw (one, z, e) (ap {B = Core} (λ (y : Word). coreAt (y .net) c nc (putBits (offOf S k) (y .out) (wideOf S k) m)) (f c nc))
 
 pub clash : {A : Type 0} → _≡_ {A = Bool} true false → A
 clash e = absurd (let z : _≡_ {A = ℕ} 0 1 = cc e in omega arith)
@@ -128,7 +128,7 @@ module _ (S : Source) (o g : List ℕ) (a : At) (long k : ℕ) (h : Makes S o g 
     unfolding wordOwn
     const-turn e s m m′ u =
         one-turn S k (wordOwn S k) (word-words S k own-plain) s m s (putDigits (nodeOf S k .imm) (wideOf S k) blank) m′
-        (λ c nc stop. plain-const (nodeOf S k) _ _ _ s _ blank refl (ap (λ (x : Node). x .kind) (sym same) ∙ e) (ap {B = Word} (λ (w : ℕ). asIs s (putDigits (nodeOf S k .imm) w blank)) (word-wide S k own-plain)))
+        (λ c nc. plain-const (nodeOf S k) _ _ _ s _ blank refl (ap (λ (x : Node). x .kind) (sym same) ∙ e) (ap {B = Word} (λ (w : ℕ). asIs s (putDigits (nodeOf S k .imm) w blank)) (word-wide S k own-plain)))
         (rw (q, same) at u)
 
   -- the operands of a node that is no const
@@ -204,11 +204,11 @@ module _ (S : Source) (o g : List ℕ) (a : At) (long k : ℕ) (h : Makes S o g 
     right-part : (m : List ℕ) → take (wideOf S (nodeOf S k .a)) (drop (offOf S (rightOf (nodeOf S k))) m) ≡ wordAt S m (rightOf (nodeOf S k)) 0
     right-part m = ap (λ (w : ℕ). take w (drop (offOf S (rightOf (nodeOf S k))) m)) (sym right-same) ∙ part-first S m (rightOf (nodeOf S k))
 
-    all-path : (s : Net) (m : List ℕ) (c : List ℕ) (nc stop : ℕ)
+    all-path : (s : Net) (m : List ℕ) (c : List ℕ) (nc : ℕ)
         → plainWord (nodeOf S k) (wideOf S (nodeOf S k .a)) (take (wideOf S (nodeOf S k .a)) (drop (offOf S (nodeOf S k .a)) m)) (take (wideOf S (nodeOf S k .a)) (drop (offOf S (rightOf (nodeOf S k))) m)) s
-        ≡ wordOwn S k 0 (coreAt s c nc m stop)
+        ≡ wordOwn S k 0 (coreAt s c nc m)
     unfolding wordOwn
-    all-path s m c nc stop = go (t .reads)
+    all-path s m c nc = go (t .reads)
       where
         go : (rightOf (nodeOf S k) ≡ nodeOf S k .b) ⊎ (nodeOf S k .kind ≡ NOT)
             → plainWord (nodeOf S k) (wideOf S (nodeOf S k .a)) (take (wideOf S (nodeOf S k .a)) (drop (offOf S (nodeOf S k .a)) m)) (take (wideOf S (nodeOf S k .a)) (drop (offOf S (rightOf (nodeOf S k))) m)) s
@@ -219,12 +219,12 @@ module _ (S : Source) (o g : List ℕ) (a : At) (long k : ℕ) (h : Makes S o g 
     plain-goes : (s : Net) (m : List ℕ) (s′ : Net) (m′ : List ℕ)
         → asIs s′ m′ ≡ plainAt (nodeOf S k) (wideOf S (nodeOf S k .a)) (offOf S (nodeOf S k .a)) (offOf S (rightOf (nodeOf S k))) (offOf S k) (asIs s m) → Turned (eachWord S k (wordOwn S k)) s m s′ m′
     unfolding plainAt
-    plain-goes s m s′ m′ u = λ c nc stop.
+    plain-goes s m s′ m′ u = λ c nc.
         let y : Word =
         plainWord (nodeOf S k) (wideOf S (nodeOf S k .a)) (take (wideOf S (nodeOf S k .a)) (drop (offOf S (nodeOf S k .a)) m)) (take (wideOf S (nodeOf S k .a)) (drop (offOf S (rightOf (nodeOf S k))) m)) s in
-        ap {B = Core} (λ (x : Word). coreAt (x .net) c nc (x .out) stop) u
+        ap {B = Core} (λ (x : Word). coreAt (x .net) c nc (x .out)) u
         ∙ one-turn S k (wordOwn S k) (word-words S k (t .of .own)) s m (y .net) (y .out) (putBits (offOf S k) (y .out) (nodeOf S k .width) m) (all-path s m)
-        (ap (λ (w : ℕ). putBits (offOf S k) (y .out) w m) (sym (word-wide S k (t .of .own)))) c nc stop
+        (ap (λ (w : ℕ). putBits (offOf S k) (y .out) w m) (sym (word-wide S k (t .of .own)))) c nc
 
   module _ (d : Node) (same : d ≡ nodeOf S k) (pl : Plain d) (ne : d .kind ≡ CONST → ⊥) (p : Place) (q : p ≡ placeOf S k) (left : Place) (l : left ≡ placeOf S (d .a)) (r : ℕ) (e : r ≡ rightOf d) where
     pair : Two (nodeOf S k)

@@ -18,7 +18,7 @@ use Rattle.visits.specs.Flow.{Core}
 use Rattle.visits.specs.Stored.{stored}
 use Rattle.visits.specs.Claims.{Operands, Under, Ready, Step}
 use Rattle.visits.proofs.Stored.{room-after}
-use Rattle.nodes.specs.Source.{Source, wordsOf, wideOf, bitsOf, offOf, gatesOf, blockedOf}
+use Rattle.nodes.specs.Source.{Source, wordsOf, wideOf, bitsOf, offOf, gatesOf}
 use Rattle.nodes.specs.Own.{wordStep, eachWord}
 use Rattle.nodes.specs.Recipe.{recipe}
 use Rattle.nodes.proofs.Places.{part-within, Till}
@@ -60,7 +60,6 @@ pub record Made (S : Source) (k c : ℕ) (s : Core) (i : ℕ) (x : Core) : Type 
   pub grows : Grows (s .net) (x .net) (i * c)
   pub cons : x .cons ≡ s .cons
   pub count : x .nc ≡ s .nc
-  pub stop : x .stop ≡ s .stop
   pub long : length (x .map) ≡ length (s .map)
   pub below : Till (offOf S k) (s .map) (x .map)
   pub above : (p : ℕ) → offOf S k + i * wideOf S k ≤ p → getD (x .map) p 0 ≡ getD (s .map) p 0
@@ -90,7 +89,6 @@ module _ (S : Source) (k c : ℕ) (s : Core) (f : ℕ → Core → Word) (fits :
         grows = grows-weaken (s .net) (y .net) (i * c + c) (suc i * c) (omega arith) (grows-trans (s .net) (x .net) (y .net) (i * c) c (h .grows) (law .grows));
         cons = h .cons;
         count = h .count;
-        stop = h .stop;
         long = p .long ∙ h .long;
         below = λ q l. p .below q (omega arith) ∙ h .below q l;
         above = λ q l. p .above q (omega arith) ∙ h .above q (omega arith);
@@ -126,7 +124,6 @@ module _ (S : Source) (k c : ℕ) (s : Core) (f : ℕ → Core → Word) (fits :
         grows = grows-refl (s .net) (0 * c);
         cons = refl;
         count = refl;
-        stop = refl;
         long = refl;
         below = λ q l. refl;
         above = λ q l. refl;
@@ -135,8 +132,8 @@ module _ (S : Source) (k c : ℕ) (s : Core) (f : ℕ → Core → Word) (fits :
       })
       one-more
 
-  pub each-step : bitsOf S k ≡ wordsOf S k * wideOf S k → s .stop ≡ 0 → blockedOf S (s .map) k ≡ false → wordsOf S k * c ≤ gatesOf S k → Step (recipe S) k s (eachWord S k f s)
-  each-step eb run nb top =
+  pub each-step : bitsOf S k ≡ wordsOf S k * wideOf S k → wordsOf S k * c ≤ gatesOf S k → Step (recipe S) k s (eachWord S k f s)
+  each-step eb top =
       let h : Made S k c s (wordsOf S k) (eachWord S k f s) = all-made in
       let g : Grows (s .net) (eachWord S k f s .net) (gatesOf S k) = grows-weaken (s .net) _ (wordsOf S k * c) (gatesOf S k) top (h .grows) in
       record {
@@ -152,9 +149,7 @@ module _ (S : Source) (k c : ℕ) (s : Core) (f : ℕ → Core → Word) (fits :
               mapBelow = h .below;
               mapAbove = λ i l. h .above i (omega arith);
             };
-        stops = λ ne. absurd (ne (h .stop ∙ run));
-        runs = λ _. nb;
-        formed = λ r _. let o = h .formed r (room-after r g) in (o .0, λ j l. o .1 j (omega arith));
-        known = λ r _ gv o. let a = h .known gv o in (a .0, h .count, λ j l. a .1 j (omega arith));
-        asked = λ r _ i lo hi. absurd (omega (arith, h .count));
+        formed = λ r. let o = h .formed r (room-after r g) in (o .0, λ j l. o .1 j (omega arith));
+        known = λ r gv o. let a = h .known gv o in (a .0, h .count, λ j l. a .1 j (omega arith));
+        asked = λ r i lo hi. absurd (omega (arith, h .count));
       }

@@ -17,10 +17,10 @@ use Rattle.netlist.specs.Net.{Net}
 use Rattle.netlist.specs.Record.{Room}
 use Rattle.gates.specs.declared.made.At.{At}
 use Rattle.gates.specs.Made.{netOf, Fits}
+use Rattle.division.specs.declared.constraint.Counts.{Counts}
 use Rattle.division.specs.Constraint.{conUsed}
 use Rattle.visits.specs.Flow.{Core}
 use Rattle.visits.specs.Claims.{Is}
-use Rattle.nodes.specs.declared.own.Progress.{Progress}
 use Rattle.nodes.specs.declared.place.Place.{Place}
 use Rattle.nodes.specs.Source.{Source, listed, wordsOf, wideOf, offOf, totalOf, gatesOf, asksOf}
 use Rattle.nodes.specs.Own.{shares}
@@ -42,24 +42,20 @@ pub record Makes (S : Source) (o : List ℕ) (g : List ℕ) (a : At) (long k : �
 abbrev pub placeOf : Source → ℕ → Place
 placeOf S x = record { off = offOf S x; words = wordsOf S x; wide = wideOf S x }
 
-abbrev pub coreAt : Net → List ℕ → ℕ → List ℕ → ℕ → Core
-coreAt s c nc m stop = record { net = s; cons = c; nc = nc; map = m; stop = stop }
+abbrev pub coreAt : Net → List ℕ → ℕ → List ℕ → Core
+coreAt s c nc m = record { net = s; cons = c; nc = nc; map = m }
 
 -- a step of the whole state that turns this net and map into those, and leaves the rest
 abbrev pub Turned : (Core → Core) → Net → List ℕ → Net → List ℕ → Type 0
-Turned f s m s′ m′ = (c : List ℕ) (nc stop : ℕ) → coreAt s′ c nc m′ stop ≡ f (coreAt s c nc m stop)
+Turned f s m s′ m′ = (c : List ℕ) (nc : ℕ) → coreAt s′ c nc m′ ≡ f (coreAt s c nc m)
 
 -- the same of a step that makes no gate
 abbrev pub Mapped : (Core → Core) → List ℕ → List ℕ → Type 0
 Mapped f m m′ = (s : Net) → Turned f s m s m′
 
--- the same of a step that also records constraints
-abbrev pub Counted : (Core → Core) → Net → List ℕ → ℕ → List ℕ → Net → List ℕ → ℕ → List ℕ → Type 0
-Counted f s c nc m s′ c′ nc′ m′ = (stop : ℕ) → coreAt s′ c′ nc′ m′ stop ≡ f (coreAt s c nc m stop)
-
--- the state that the buffers and the progress say
-abbrev pub coreOf : List ℕ → List ℕ → List ℕ → Progress → Core
-coreOf g c m p = coreAt (netOf g (p .at)) c (p .constraints) m (p .stop)
+-- the state that the buffers say, with the places of the next gate and the next constraint
+abbrev pub coreOf : List ℕ → List ℕ → List ℕ → Counts → Core
+coreOf g c m p = coreAt (netOf g (p .at)) c (p .m) m
 
 -- node k of a table without fault, over that state, with room for its gates and its constraints
 pub record Owns (S : Source) (o : List ℕ) (k : ℕ) (s : Core) : Type 0 where

@@ -1,13 +1,12 @@
 -- What a table means under one choice of the given words: the word values that the word evaluator leaves, as digits.
 use mathlib.Core.List.{List}
-use mathlib.Core.Bool.{Bool, _&&_}
+use mathlib.Core.Bool.{Bool}
 use Prim.Native.Nat.{ℕ, _+_, _/_, _%_}
 use lib.Dec.{eqb}
 use lib.ListN.{getD}
-use Rattle.table.specs.Kind.{divides}
-use Rattle.values.specs.Value.{divWord, remWord}
 use Rattle.values.specs.Eval.{offset}
 use Rattle.digits.specs.Digits.{digit}
+use Rattle.division.specs.Zero.{nonzero}
 use Rattle.visits.specs.Claims.{Meaning}
 use Rattle.nodes.specs.Source.{Source, nodeOf, wideOf}
 
@@ -26,19 +25,18 @@ isOne a j = eqb (digit a j) 1
 unfoldable pub valueOf : Source → List ℕ → ℕ → ℕ → Bool
 valueOf S x k j = isOne (slotOf S x k (j / wideOf S k)) (j % wideOf S k)
 
--- the dividend and the divisor of a division k
+-- the dividend of a division k, and what it is divided by: the divisor, or 1 where that is zero
 abbrev pub dividend : Source → List ℕ → ℕ → ℕ
 dividend S x k = slotOf S x (nodeOf S k .a) 0
 
 abbrev pub divisor : Source → List ℕ → ℕ → ℕ
-divisor S x k = slotOf S x (nodeOf S k .b) 0
+divisor S x k = nonzero (slotOf S x (nodeOf S k .b) 0)
 
--- the right quotient and remainder of a division are the values of divu and of rem
+-- where the divisor is not zero, the right quotient and remainder of a division are the values of divu and of rem; where it is, z chooses others
 abbrev pub meaning : Source → List ℕ → Meaning
 meaning S x =
     record {
       value = valueOf S x;
-      quotient = λ k. isOne (divWord (nodeOf S k .width) (dividend S x k) (divisor S x k));
-      remainder = λ k. isOne (remWord (dividend S x k) (divisor S x k));
-      byZero = λ k. divides (nodeOf S k .kind) && eqb (divisor S x k) 0;
+      quotient = λ k. isOne (dividend S x k / divisor S x k);
+      remainder = λ k. isOne (dividend S x k % divisor S x k);
     }

@@ -1,6 +1,6 @@
 -- A node's own gates and bits, kind by kind: document 01's recipe over the bit map.
 use mathlib.Core.List.{List}
-use mathlib.Core.Bool.{Bool, false, _||_}
+use mathlib.Core.Bool.{Bool, _||_}
 use Prim.Native.Nat.{ℕ, _+_, _-_, _*_}
 use lib.Dec.{eqb}
 use lib.ListN.{getD, set}
@@ -29,7 +29,7 @@ use Rattle.division.specs.Rows.{Checked}
 use Rattle.division.specs.Divide.{divideWords}
 use Rattle.visits.specs.Flow.{Core}
 use Rattle.visits.specs.Stored.{stored}
-use Rattle.nodes.specs.Source.{Source, listed, nodeOf, wordsOf, wideOf, bitsOf, offOf, wordAt, allAt, conditionOf, secondOf, blockedOf}
+use Rattle.nodes.specs.Source.{Source, listed, nodeOf, wordsOf, wideOf, bitsOf, offOf, wordAt, allAt, conditionOf, secondOf}
 
 -- a word over a blank, and the net unchanged
 abbrev pub asIs : Net → List ℕ → Word
@@ -113,7 +113,7 @@ divideOwn S k s =
     let x : Checked =
     divideWords (eqb (nodeOf S k .kind) DIVU) (wideOf S k) k (wordAt S (s .map) (nodeOf S k .a) 0) (wordAt S (s .map) (nodeOf S k .b) 0)
     (record { net = s .net; cons = consOf (s .cons) (s .nc); out = blank }) in
-    record { net = x .net; cons = x .cons .list; nc = x .cons .m; map = putBits (offOf S k) (x .out) (wideOf S k) (s .map); stop = s .stop }
+    record { net = x .net; cons = x .cons .list; nc = x .cons .m; map = putBits (offOf S k) (x .out) (wideOf S k) (s .map) }
 
 -- an ite with a known condition shares the chosen side
 unfoldable pub iteOwn : Source → ℕ → Core → Core
@@ -126,8 +126,8 @@ abbrev pub shares : Node → Bool
 shares d = eqb (d .kind) STATE || eqb (d .kind) BAD || extends (d .kind)
 
 -- the own step of node k, by its kind
-unfoldable pub madeBy : Source → ℕ → Core → Core
-madeBy S k s =
+unfoldable pub ownStep : Source → ℕ → Core → Core
+ownStep S k s =
     pick (given (nodeOf S k)) (eachWord S k (inputWord S k) s)
     (pick (shares (nodeOf S k)) (eachWord S k (shareWord S (aboveOf S (s .map) k) (nodeOf S k .a)) s)
     (pick (eqb (nodeOf S k .kind) ITE) (iteOwn S k s)
@@ -135,11 +135,3 @@ madeBy S k s =
     (pick (eqb (nodeOf S k .kind) READ) (eachWord S k (readWord S k) s)
     (pick (eqb (nodeOf S k .kind) WRITE) (writeOwn S k s)
     (eachWord S k (wordOwn S k) s))))))
-
--- nothing, once the lowering has stopped; it stops where a divisor is known to be zero
-unfoldable pub ownStep : Source → ℕ → Core → Core
-ownStep S k s =
-    pick (eqb (s .stop) 0)
-    (pick (blockedOf S (s .map) k) (record { net = s .net; cons = s .cons; nc = s .nc; map = s .map; stop = k })
-    (madeBy S k s))
-    s

@@ -2,7 +2,7 @@
 use Prim.Native.Nat.{_+_}
 use Rattle.table.specs.Node.{nodes, given}
 use Rattle.visits.specs.Flow.{Recipe}
-use Rattle.nodes.specs.Source.{Source, nodeOf, bitsOf, offOf, totalOf, gatesOf, asksOf, firstOf, secondOf, thirdOf, blockedOf, badOf}
+use Rattle.nodes.specs.Source.{Source, nodeOf, bitsOf, offOf, totalOf, gatesOf, asksOf, firstOf, secondOf, thirdOf, badOf}
 use Rattle.nodes.specs.Own.{ownStep}
 
 abbrev pub recipe : Source → Recipe
@@ -20,5 +20,4 @@ recipe S =
       own = ownStep S;
       given = λ k. given (nodeOf S k);
       bad = badOf S;
-      blocked = blockedOf S;
     }

@@ -7,12 +7,11 @@ use lib.ListN.{getD, length, take, drop}
 use Rattle.loops.specs.Loop.{pick}
 use Rattle.table.specs.declared.Node.{Node}
 use Rattle.table.specs.declared.Unit.the-variants.{Bit}
-use Rattle.table.specs.Kind.{BAD, ITE, divides}
-use Rattle.table.specs.Node.{nodes, nodeAt, widthOf}
+use Rattle.table.specs.Kind.{BAD, ITE}
+use Rattle.table.specs.Node.{nodeAt, widthOf}
 use Rattle.table.specs.Size.{sizeOf, offsetOf, sizeSum}
 use Rattle.table.specs.Ceiling.{nodeGates, nodeConstraints}
 use Rattle.netlist.specs.Bit.{isKnown}
-use Rattle.digits.specs.Digits.{allKnown, knownNumber}
 
 pub record Source : Type 0 where
   pub table : List ℕ
@@ -75,12 +74,6 @@ secondOf S m k = pick (eqb (nodeOf S k .kind) ITE && eqb (conditionOf S m k) 0) 
 
 unfoldable pub thirdOf : Source → List ℕ → ℕ → ℕ
 thirdOf S m k = pick (eqb (nodeOf S k .kind) ITE && isKnown (conditionOf S m k)) 0 (nodeOf S k .c)
-
--- refusal 10: a divisor that is wholly known and zero
-unfoldable pub blockedOf : Source → List ℕ → ℕ → Bool
-blockedOf S m k =
-    divides (nodeOf S k .kind)
-    && (allKnown (wideOf S (nodeOf S k .b)) (wordAt S m (nodeOf S k .b) 0) && eqb (knownNumber (wideOf S (nodeOf S k .b)) (wordAt S m (nodeOf S k .b) 0)) 0)
 
 abbrev pub badOf : Source → ℕ → Bool
 badOf S k = eqb (nodeOf S k .kind) BAD

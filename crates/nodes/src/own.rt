@@ -7,10 +7,9 @@ ghost use Rattle.table.specs.Kind as kinds;
 ghost use Rattle.table.specs.Node.{nodeAt};
 ghost use Rattle.nodes.specs.Source.{source};
 ghost use Rattle.nodes.specs.Own as own;
-ghost use Rattle.nodes.specs.Own.{aboveOf, madeBy, ownStep};
+ghost use Rattle.nodes.specs.Own.{aboveOf, ownStep};
 ghost use Rattle.nodes.specs.Asked.{Stands, Makes, Turned, Owns, coreOf};
 use crate::choose::ite_node;
-use crate::divide::blocked;
 use crate::divide::divide_node;
 use crate::input::input_node;
 use crate::place::place_of;
@@ -18,6 +17,7 @@ use crate::plain::word_node;
 use crate::read::read_node;
 use crate::share::share_node;
 use crate::write::write_node;
+use division::constraint::Counts;
 use gates::made::At;
 use table::Node;
 use table::field::is_given;
@@ -29,13 +29,6 @@ use table::kind::STATE;
 use table::kind::WRITE;
 use table::kind::divides;
 use table::kind::extends;
-
-// How far a lowering has come: where the next gate goes, how many constraints there are, and 0 or the node at which it stopped.
-pub struct Progress {
-    pub at: At,
-    pub constraints: usize,
-    pub stop: usize,
-}
 
 // A kind that shares its operand's bits: an initialised state, a bad, an ext, a sext.
 fn shares(node: Node) -> bool
@@ -78,7 +71,7 @@ fn make(
     node: Node,
 ) -> At
     requires { ⌜ Makes (source (now table) (now addrs) word) (now offs) (now gates) at (length (now map)) k × (node ≡ nodeAt (now table) k) × (kinds.divides (node .kind) ≡ false) ⌝ }
-    ensures { λ r. ⌜ Turned (madeBy (source (now (table .entry)) (now (addrs .entry)) word) k) (netOf (now (gates .entry)) at) (now (map .entry)) (netOf (now (gates .exit)) r) (now (map .exit)) ⌝ }
+    ensures { λ r. ⌜ Turned (ownStep (source (now (table .entry)) (now (addrs .entry)) word) k) (netOf (now (gates .entry)) at) (now (map .entry)) (netOf (now (gates .exit)) r) (now (map .exit)) ⌝ }
 {
     if is_given(node) {
         return input_node(table, addrs, word, offs, gates, at, map, k);
@@ -100,7 +93,7 @@ fn make(
     word_node(table, addrs, word, offs, gates, at, map, k, node)
 }
 
-// The own step. After a stop nothing is done; a divisor that is known to be zero is where the lowering stops.
+// The own step.
 pub fn own_step(
     table: &[u64],
     addrs: &[u64],
@@ -111,48 +104,15 @@ pub fn own_step(
     map: &mut [u32],
     k: usize,
     node: Node,
-    p: Progress,
-) -> Progress
+    p: Counts,
+) -> Counts
     requires { ⌜ Owns (source (now table) (now addrs) word) (now offs) k (coreOf (now gates) (now cons) (now map) p) × (node ≡ nodeAt (now table) k) ⌝ }
     ensures { λ r. ⌜ coreOf (now (gates .exit)) (now (cons .exit)) (now (map .exit)) r ≡ ownStep (source (now (table .entry)) (now (addrs .entry)) word) k (coreOf (now (gates .entry)) (now (cons .entry)) (now (map .entry)) p) ⌝ }
 {
-    if p.stop != 0 {
-        return p;
+    if divides(node.kind) {
+        return divide_node(table, addrs, word, offs, gates, cons, map, k, node, p);
     }
     let start = p.at;
-    let constraints = p.constraints;
-    if blocked(table, addrs, word, offs, map, k, node) {
-        return Progress {
-            at: start,
-            constraints,
-            stop: k,
-        };
-    }
-    if divides(node.kind) {
-        let c = divide_node(
-            table,
-            addrs,
-            word,
-            offs,
-            gates,
-            start,
-            cons,
-            constraints,
-            map,
-            k,
-            node,
-        );
-        let at = c.at;
-        return Progress {
-            at,
-            constraints: c.m,
-            stop: p.stop,
-        };
-    }
     let at = make(table, addrs, word, offs, gates, start, map, k, node);
-    Progress {
-        at,
-        constraints,
-        stop: p.stop,
-    }
+    Counts { at, m: p.m }
 }

@@ -15,7 +15,8 @@ It reads lines of fields parted by one tab; numbers are decimal:
     node N KIND WIDTH A B C IMM  up to 512, numbered from 1
 KIND is const input state not bad and or ext sext eq add ite sub ult mul divu
 rem sll srl read write; A B C are earlier nodes, or 0; IMM is a const's number;
-WIDTH 0 is memory; ext and sext widen A to WIDTH, by zeros or by its top bit.
+WIDTH 0 is memory; ext and sext widen A to WIDTH, by zeros or by its top bit;
+a divu by 0 is all ones, a rem by 0 is A.
 It prints all that the bad nodes lean on:
     gate G KIND X Y Z            0 false, 1 true, 2 bit Y of input X, 3 not,
         4 and, 5 nand, 6 or, 7 (not X) and Y, 8 and 9 carry and sum of X + Y,
@@ -33,7 +34,6 @@ or one line, refused NUMBER NODE (NODE is 0 where no single node is at fault):
  7 GATE ROOM       may need more than 4,096 gates
  8 BIT ROOM        the nodes have more than 16,384 bits together
  9 CONSTRAINT ROOM may need more than 8,192 constraints
-10 ZERO DIVISOR    the node divides by what is known to be zero
 11 GATE LIST       to an evaluator: what is given is no gate list
 12 VALUE ROOM      to an evaluator: too few places for the values
 13 INPUT           to an evaluator: a given value is out of range

@@ -2,7 +2,7 @@
 use mathlib.Core.Path.{_≡_, refl}
 use mathlib.Core.List.{List, [], _∷_}
 use mathlib.Core.Bool.{Bool, true, _&&_}
-use Prim.Native.Nat.{ℕ, zero, _+_, _-_, _*_, _/_, _%_, _^_}
+use Prim.Native.Nat.{ℕ, _+_, _-_, _*_, _/_, _%_, _^_}
 use lib.Dec.{eqb}
 use lib.ListN.{getD, take, replicate}
 use Rattle.loops.specs.Loop.{pick, iter, first, sum}
@@ -15,7 +15,6 @@ use Rattle.values.specs.Eval.{slotWidth, slotBad, inputBad, slotStep, nodeStep,
 use Rattle.values.specs.Value.{notWord, addWord, subWord, mulWord, divWord, remWord, wordValue, readValue, writeValue, iteValue, placeAt, slotAt}
 use Rattle.netlist.specs.Bit.{isKnown, knownOf, byKnown}
 use Rattle.netlist.specs.Check.{fieldGood, constGood, laterGood, faulty, listFault}
-use Rattle.netlist.specs.Eval as gate
 use Rattle.netlist.specs.Eval.{gateValue, evalStep, outOfRange, evalSound, evalGates}
 use Rattle.netlist.specs.Kind.{free, usesY, usesZ, valueOf}
 use Rattle.netlist.specs.Record.{gateAt, put, used}
@@ -43,8 +42,8 @@ use Rattle.memory.specs.Write.{writeKnown, writeStep, writeWords}
 use Rattle.visits.specs.Flow.{owned, enter, mark, visitTo, rootStep, lowerTo}
 use Rattle.visits.specs.Stored.{stored}
 use Rattle.lowering.specs.Lower.{Run, number, countsOf, start, ended, lowerClear, lowerAsked, lowerAll}
-use Rattle.nodes.specs.Own.{wordStep, inputStep, inputWord, shareWord, aboveOf, chooseWord, readWord, plainWord, wordOwn, writeOwn, divideOwn, iteOwn, madeBy, ownStep}
-use Rattle.nodes.specs.Source.{source, offOf, wordsOf, wideOf, bitsOf, gatesOf, asksOf, secondOf, thirdOf, blockedOf}
+use Rattle.nodes.specs.Own.{wordStep, inputStep, inputWord, shareWord, aboveOf, chooseWord, readWord, plainWord, wordOwn, writeOwn, divideOwn, iteOwn, ownStep}
+use Rattle.nodes.specs.Source.{source, offOf, wordsOf, wideOf, bitsOf, gatesOf, asksOf, secondOf, thirdOf}
 
 -- W = 2, addresses 0 and 2
 abbrev pub table : List ℕ
@@ -76,7 +75,7 @@ table =
     17 ∷ 0 ∷ 20 ∷ 23 ∷ 21 ∷ 0 ∷
     1 ∷ 2 ∷ 0 ∷ 0 ∷ 0 ∷ 0 ∷
     17 ∷ 0 ∷ 20 ∷ 26 ∷ 21 ∷ 0 ∷
-    -- what reaches each of them, but for the divisions by a known zero: first the memory, then the words
+    -- what reaches each of them: first the memory, then the words
     8 ∷ 1 ∷ 22 ∷ 23 ∷ 0 ∷ 0 ∷
     5 ∷ 1 ∷ 28 ∷ 0 ∷ 0 ∷ 0 ∷
     8 ∷ 1 ∷ 24 ∷ 26 ∷ 0 ∷ 0 ∷
@@ -97,6 +96,8 @@ table =
     5 ∷ 1 ∷ 44 ∷ 0 ∷ 0 ∷ 0 ∷
     8 ∷ 1 ∷ 19 ∷ 19 ∷ 0 ∷ 0 ∷
     5 ∷ 1 ∷ 46 ∷ 0 ∷ 0 ∷ 0 ∷
+    8 ∷ 1 ∷ 16 ∷ 17 ∷ 0 ∷ 0 ∷
+    5 ∷ 1 ∷ 48 ∷ 0 ∷ 0 ∷ 0 ∷
     []
 
 abbrev pub addresses : List ℕ
@@ -104,7 +105,7 @@ addresses = 0 ∷ 2 ∷ []
 
 -- the memory of node 20 holds 3 and 1; one slot more is not touched
 abbrev pub before : List ℕ
-before = 7 ∷ 7 ∷ 7 ∷ 7 ∷ 7 ∷ 7 ∷ 7 ∷ 7 ∷ 7 ∷ 7 ∷ 7 ∷ 7 ∷ 7 ∷ 7 ∷ 7 ∷ 7 ∷ 7 ∷ 7 ∷ 7 ∷ 3 ∷ 1 ∷ 7 ∷ 7 ∷ 7 ∷ 7 ∷ 7 ∷ 7 ∷ 7 ∷ 7 ∷ 7 ∷ 7 ∷ 7 ∷ 7 ∷ 7 ∷ 7 ∷ 7 ∷ 7 ∷ 7 ∷ 7 ∷ 7 ∷ 7 ∷ 7 ∷ 7 ∷ 7 ∷ 7 ∷ 7 ∷ 7 ∷ 7 ∷ 7 ∷ 7 ∷ 99 ∷ []
+before = 7 ∷ 7 ∷ 7 ∷ 7 ∷ 7 ∷ 7 ∷ 7 ∷ 7 ∷ 7 ∷ 7 ∷ 7 ∷ 7 ∷ 7 ∷ 7 ∷ 7 ∷ 7 ∷ 7 ∷ 7 ∷ 7 ∷ 3 ∷ 1 ∷ 7 ∷ 7 ∷ 7 ∷ 7 ∷ 7 ∷ 7 ∷ 7 ∷ 7 ∷ 7 ∷ 7 ∷ 7 ∷ 7 ∷ 7 ∷ 7 ∷ 7 ∷ 7 ∷ 7 ∷ 7 ∷ 7 ∷ 7 ∷ 7 ∷ 7 ∷ 7 ∷ 7 ∷ 7 ∷ 7 ∷ 7 ∷ 7 ∷ 7 ∷ 7 ∷ 7 ∷ 99 ∷ []
 
 -- the memory of node 20 holds 3 and 1: its InputBits are the first gates after the two constants
 abbrev pub given : List ℕ
@@ -145,13 +146,13 @@ rows =
     -- the memory holds 3 and 1: read 2 gives 1, read 1 gives 0; write 2 at 1 leaves 3, 1; at 0 gives 2, 1
     ∷ row (slot 20 0) 3 ∷ row (slot 20 1) 1 ∷ row (slot 22 0) 1 ∷ row (slot 24 0) 0
     ∷ row (slot 25 0) 3 ∷ row (slot 25 1) 1 ∷ row (slot 27 0) 2 ∷ row (slot 27 1) 1 ∷ row beyond 99
-    -- ceilings: mul 4 is 40, divu 4 is 91 with 16 constraints
-    ∷ row (gates 12) 40 ∷ row (gates 14) 91 ∷ row (constraints 14) 16
-    -- and by gates: the same numbers, but for the divisions by a known zero, which nothing reaches
+    -- ceilings: mul 4 is 40, divu 4 is 111 with 16 constraints
+    ∷ row (gates 12) 40 ∷ row (gates 14) 111 ∷ row (constraints 14) 16
+    -- and by gates: the same numbers
     ∷ row lowers 0 ∷ row made 13 ∷ row recorded 0
     ∷ row (bitOf 1 0) 0 ∷ row (bitOf 1 1) 1 ∷ row (bitOf 1 2) 0 ∷ row (bitOf 1 3) 1
     ∷ row (says 4 0 4) 0 ∷ row (says 6 0 4) 15 ∷ row (says 9 0 1) 1 ∷ row (says 10 0 1) 0 ∷ row (says 12 0 4) 5
-    ∷ row (says 14 0 4) 4 ∷ row (says 15 0 4) 1 ∷ row (bitOf 16 0) 4294967295 ∷ row (bitOf 17 3) 4294967295 ∷ row (says 19 0 64) 9
+    ∷ row (says 14 0 4) 4 ∷ row (says 15 0 4) 1 ∷ row (says 16 0 4) 15 ∷ row (says 17 0 4) 13 ∷ row (says 19 0 64) 9
     ∷ row (says 20 0 2) 3 ∷ row (says 20 1 2) 1 ∷ row (says 22 0 2) 1 ∷ row (says 24 0 2) 0
     ∷ row (says 25 0 2) 3 ∷ row (says 25 1 2) 1 ∷ row (says 27 0 2) 2 ∷ row (says 27 1 2) 1
     ∷ []
@@ -163,7 +164,7 @@ pub asked : word.Run → Run → List ℕ → Ask → ℕ
 asked r l v refusal = word.number (r .answer)
 asked r l v (digit i k) = getD (r .values) (offset table addresses i) 0 / 2 ^ k % 2
 asked r l v (slot i j) = getD (r .values) (offset table addresses i + j) 0
-asked r l v beyond = getD (r .values) 50 0
+asked r l v beyond = getD (r .values) 52 0
 asked r l v (gates i) = nodeGates table 2 2 (i - 1)
 asked r l v (constraints i) = nodeConstraints table (i - 1)
 asked r l v lowers = number (l .answer)
@@ -181,5 +182,5 @@ right r l = all-right r l (evalGates (take (used 13) (l .gates)) given .values) 
 
 -- lent: 1,000 gates, 64 constraints, 1,000 places
 pub small : right (evalWords table addresses 2 before) (lowerAll (source table addresses 2) (replicate 4000 0) (replicate 128 0) (replicate 1000 0)) ≡ true
-unfolding right all-right asked pick iter first sum divGates divConstraints memoryGates iteGates plainGates ceiling constraintCeiling nodeGates nodeConstraints sumsOf fieldAt sizeGood isAt addressBad addressesBad operandsGood sortGood sortsGood faultOf nodeFault nodeBad nodesFault tableFault asksAt asks nodeSize offsetOf sizeSum slotWidth slotBad inputBad slotStep nodeStep evalClear evalWords notWord addWord subWord mulWord divWord remWord wordValue readValue writeValue iteValue placeAt slotAt isKnown knownOf byKnown fieldGood constGood laterGood faulty listFault gateValue evalStep outOfRange evalSound evalGates free usesY usesZ valueOf gateAt put twoKnown oneKnown noneKnown adderBit trueSide falseSide bothSides choiceBit muxBit notBit andBit orBit xnorBit added digits.digit digits.number digitStep unknownAt allKnown addStep bitwise eachStep copyStep joinStep eqWords mulStep filled subWords ultWords sumWords checkWords putCon constrain conStep divWords freeWord divideWords pairStep rowStep atListed readKnown readOne readStep readWords writeKnown writeStep writeWords owned enter mark visitTo rootStep lowerTo stored start ended lowerClear lowerAsked lowerAll wordStep inputStep inputWord shareWord aboveOf chooseWord readWord plainWord wordOwn writeOwn divideOwn iteOwn madeBy ownStep wordsOf wideOf bitsOf gatesOf asksOf secondOf thirdOf blockedOf
+unfolding right all-right asked pick iter first sum divGates divConstraints memoryGates iteGates plainGates ceiling constraintCeiling nodeGates nodeConstraints sumsOf fieldAt sizeGood isAt addressBad addressesBad operandsGood sortGood sortsGood faultOf nodeFault nodeBad nodesFault tableFault asksAt asks nodeSize offsetOf sizeSum slotWidth slotBad inputBad slotStep nodeStep evalClear evalWords notWord addWord subWord mulWord divWord remWord wordValue readValue writeValue iteValue placeAt slotAt isKnown knownOf byKnown fieldGood constGood laterGood faulty listFault gateValue evalStep outOfRange evalSound evalGates free usesY usesZ valueOf gateAt put twoKnown oneKnown noneKnown adderBit trueSide falseSide bothSides choiceBit muxBit notBit andBit orBit xnorBit added digits.digit digits.number digitStep unknownAt allKnown addStep bitwise eachStep copyStep joinStep eqWords mulStep filled subWords ultWords sumWords checkWords putCon constrain conStep divWords freeWord divideWords pairStep rowStep atListed readKnown readOne readStep readWords writeKnown writeStep writeWords owned enter mark visitTo rootStep lowerTo stored start ended lowerClear lowerAsked lowerAll wordStep inputStep inputWord shareWord aboveOf chooseWord readWord plainWord wordOwn writeOwn divideOwn iteOwn ownStep wordsOf wideOf bitsOf gatesOf asksOf secondOf thirdOf
 small = refl

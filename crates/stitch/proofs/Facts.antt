@@ -24,7 +24,7 @@ use Rattle.text.specs.Write.{Offsets, constraintSize, gateCount, nodeCount, con
 use Rattle.text.proofs.Answers.{TableRead, table-read, refused-read, plainOf}
 use Rattle.text.proofs.Sizes.{room}
 use Rattle.lowering.specs.declared.lower.Answer.{Answer}
-use Rattle.lowering.specs.declared.lower.Answer.the-variants.{Done, Table, NothingAsked, GateRoom, BitRoom, ConstraintRoom, ZeroDivisor}
+use Rattle.lowering.specs.declared.lower.Answer.the-variants.{Done, Table, NothingAsked, GateRoom, BitRoom, ConstraintRoom}
 use Rattle.nodes.specs.Source.{Source, source, listed}
 use Rattle.lowering.specs.Lower.{Run, run, number, node, countsOf, lowered, lowerAll, marked, Accepted}
 use Rattle.lowering.specs.Promise.{Promise}
@@ -161,7 +161,6 @@ refused-lines S g c m z NothingAsked h = refl
 refused-lines S g c m z GateRoom h = refl
 refused-lines S g c m z BitRoom h = refl
 refused-lines S g c m z ConstraintRoom h = refl
-refused-lines S g c m z (ZeroDivisor k) h = refl
 
 is-done : (a : Answer) → countsOf a .done ≡ true → a ≡ Done (countsOf a .gates) (countsOf a .constraints)
 is-done (Done n k) h = refl
@@ -170,7 +169,6 @@ is-done NothingAsked h = absurd (let i : _≡_ {A = ℕ} 0 1 = cc in omega arith
 is-done GateRoom h = absurd (let i : _≡_ {A = ℕ} 0 1 = cc in omega arith)
 is-done BitRoom h = absurd (let i : _≡_ {A = ℕ} 0 1 = cc in omega arith)
 is-done ConstraintRoom h = absurd (let i : _≡_ {A = ℕ} 0 1 = cc in omega arith)
-is-done (ZeroDivisor k) h = absurd (let i : _≡_ {A = ℕ} 0 1 = cc in omega arith)
 
 done-lines : (S : Source) (g c m z : List ℕ) (a : Answer) (n k : ℕ) → a ≡ Done n k → doneLines S n k g c m z ≡ answerLines S g c m z a
 unfolding answerLines

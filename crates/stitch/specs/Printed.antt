@@ -12,7 +12,7 @@ use Rattle.text.specs.Plain.Plain.{plain}
 use Rattle.text.specs.Read.{flat}
 use Rattle.text.specs.Write.{constraintSize, output, refusedLine}
 use Rattle.lowering.specs.declared.lower.Answer.{Answer}
-use Rattle.lowering.specs.declared.lower.Answer.the-variants.{Done, Table, NothingAsked, GateRoom, BitRoom, ConstraintRoom, ZeroDivisor}
+use Rattle.lowering.specs.declared.lower.Answer.the-variants.{Done, Table, NothingAsked, GateRoom, BitRoom, ConstraintRoom}
 use Rattle.nodes.specs.Source.{Source, source, listed, totalOf}
 use Rattle.lowering.specs.Lower.{number, node, Run, lowered, lowerAll}
 
@@ -65,7 +65,6 @@ answerLines S g c m z NothingAsked = refusal NothingAsked
 answerLines S g c m z GateRoom = refusal GateRoom
 answerLines S g c m z BitRoom = refusal BitRoom
 answerLines S g c m z ConstraintRoom = refusal ConstraintRoom
-answerLines S g c m z (ZeroDivisor k) = refusal (ZeroDivisor k)
 
 -- what the lowering of a table answered and left in its buffers
 unfoldable pub runLines : Source → List ℕ → Run → List ℕ

@@ -14,7 +14,7 @@ use Rattle.table.specs.Size.{sizeOf, sizeSum}
 
 -- divu, rem
 unfoldable pub divGates : ℕ → ℕ
-divGates v = 2 * v * v + 13 * v + 1 + v * (v - 1) / 2
+divGates v = 2 * v * v + 18 * v + 1 + v * (v - 1) / 2
 
 unfoldable pub divConstraints : ℕ → ℕ
 divConstraints v = v * (v - 1) / 2 + 2 * v + 2

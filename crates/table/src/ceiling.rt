@@ -43,7 +43,7 @@ fn div_gates(v: u64) -> u64
     requires { ⌜ v ≤ 64 ⌝ }
     ensures { λ r. ⌜ (r ≡ divGates v) × (r ≤ 67108864) ⌝ }
 {
-    times(2 * v, v) + 13 * v + 1 + times(v, less_one(v)) / 2
+    times(2 * v, v) + 18 * v + 1 + times(v, less_one(v)) / 2
 }
 
 fn div_constraints(v: u64) -> u64

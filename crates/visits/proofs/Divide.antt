@@ -1,33 +1,17 @@
 -- The law of values of a division with unknown operands.
-use mathlib.Core.Path.{_≡_, refl, sym, ap, _∙_}
-use mathlib.Core.Bool.{Bool, true, false}
+use mathlib.Core.Path.{_≡_, refl, sym, _∙_}
+use mathlib.Core.Bool.{true}
 use mathlib.Core.Logic.{_⊎_, inl, inr}
-use Prim.Native.Nat.{ℕ, zero, _+_, _*_, _/_, _≤_, _<_}
-use native.Mathlib.Omega.{arith}
-use native.Mathlib.Nat.{mul-add-div-right, div-eq-of-lt}
+use Prim.Native.Nat.{ℕ, _≤_, _<_}
 use Rattle.netlist.specs.Net.{Assign}
 use Rattle.netlist.specs.Record.{gate, gateAt}
 use Rattle.loops.specs.Loop.{pick}
 use Rattle.netlist.specs.Kind.{free}
 use Rattle.visits.specs.Flow.{Core, Recipe}
 use Rattle.visits.specs.Claims.{Meaning, Right, freeValue, Frees, Considered, Met, Operands, Fine, StepRight}
-use Rattle.visits.specs.Divide.{Divided, Division, Divide}
+use Rattle.visits.specs.Divide.{Division, Divide}
 use Rattle.digits.specs.Digits.{number}
-use Rattle.digits.proofs.Numbers.{number-same, number-digit}
-
--- one quotient
-pub one-quotient : {a d q r : ℕ} → Divided a d q r → q ≡ a / d
-one-quotient {a} {d} {q} {r} h =
-    let p : (q * d + r) / d ≡ q + r / d = mul-add-div-right (omega (arith, h .less)) q r in
-    let z : r / d ≡ 0 = div-eq-of-lt (h .less) in
-    let c : (q * d + r) / d ≡ a / d = ap (λ (x : ℕ). x / d) (h .equal) in
-    omega arith
-
-pub one-divided : {a d q r q′ r′ : ℕ} → Divided a d q r → Divided a d q′ r′ → (q ≡ q′) × (r ≡ r′)
-one-divided {a} {d} {q} {r} {q′} {r′} h k =
-    let e : q ≡ q′ = one-quotient h ∙ sym (one-quotient k) in
-    let m : q * d ≡ q′ * d = ap (λ (x : ℕ). x * d) e in
-    (e, omega (arith, h .equal, k .equal))
+use Rattle.digits.proofs.Numbers.{number-same, number-digit, parts-one}
 
 quotient-value : (M : Meaning) (k j : ℕ) → freeValue M (gate 12 k j 0) ≡ M .quotient k j
 unfolding freeValue pick
@@ -46,22 +30,15 @@ unfolding free
 remainder-free k j = refl
 
 module _ {R : Recipe} {M : Meaning} {k w a d : ℕ} {s t : Core} (quo rem : ℕ → ℕ) (means : Division M k w a d) (law : Divide R M k w a d s t quo rem) where
-  not-zero : {q r : ℕ} → Divided a d q r → (b : Bool) → M .byZero k ≡ b → M .byZero k ≡ false
-  not-zero h true z = absurd (omega (arith, h .less, means .zero z))
-  not-zero h false z = z
-
   divide-sound : (e : Assign) → Considered M (t .net) e → Operands R (s .map) k (Right R M e (s .map)) → Met t (s .nc) e → Fine R M k s t e
   divide-sound e ce o me =
-      record { divides = nz; frees = λ g lo hi fr. at g (law .only (ce .obeys .room) g lo hi fr); right = law .right e quos rems }
+      record { frees = λ g lo hi fr. at g (law .only (ce .obeys .room) g lo hi fr); right = law .right e ce o quos rems }
     where
-      found : Divided a d (number (λ j. e (quo j)) w) (number (λ j. e (rem j)) w)
-      found = law .met e ce o .0 me
-
-      nz : M .byZero k ≡ false
-      nz = not-zero found (M .byZero k) refl
-
       same : (number (λ j. e (quo j)) w ≡ number (M .quotient k) w) × (number (λ j. e (rem j)) w ≡ number (M .remainder k) w)
-      same = one-divided found (means .solves nz)
+      same =
+          let p = parts-one (number (λ j. e (quo j)) w) (number (λ j. e (rem j)) w) a d (law .met e ce o .0 me) in
+          let q = parts-one (number (M .quotient k) w) (number (M .remainder k) w) a d means in
+          (p .0 ∙ sym (q .0), p .1 ∙ sym (q .1))
 
       quos : (j : ℕ) → j < w → e (quo j) ≡ M .quotient k j
       quos = number-digit (λ j. e (quo j)) (M .quotient k) w (same .0)
@@ -76,8 +53,8 @@ module _ {R : Recipe} {M : Meaning} {k w a d : ℕ} {s t : Core} (quo rem : ℕ 
       at : (g : ℕ) → (j : ℕ) × (j < w) × ((g ≡ quo j) ⊎ (g ≡ rem j)) → e g ≡ freeValue M (gateAt (t .net .gates) g)
       at g x = either g (x .0) (x .1) (x .2)
 
-  divide-complete : (e : Assign) → Considered M (t .net) e → Operands R (s .map) k (Right R M e (s .map)) → M .byZero k ≡ false → Frees M (t .net) (s .net .n) e → Met t (s .nc) e
-  divide-complete e ce o nz fe = law .met e ce o .1 (rw (number-same (λ j. e (quo j)) (M .quotient k) w quos, number-same (λ j. e (rem j)) (M .remainder k) w rems) (means .solves nz))
+  divide-complete : (e : Assign) → Considered M (t .net) e → Operands R (s .map) k (Right R M e (s .map)) → Frees M (t .net) (s .net .n) e → Met t (s .nc) e
+  divide-complete e ce o fe = law .met e ce o .1 (rw (number-same (λ j. e (quo j)) (M .quotient k) w quos, number-same (λ j. e (rem j)) (M .remainder k) w rems) means)
     where
       quos : (j : ℕ) → j < w → e (quo j) ≡ M .quotient k j
       quos j lt =

@@ -1,5 +1,5 @@
 -- What a visit keeps, room or not: older gates, constraints, bits and marks; and that each node seen pays for its own gates.
-use mathlib.Core.Path.{_≡_, refl, sym, ap, _∙_, subst}
+use mathlib.Core.Path.{_≡_, refl, sym, ap, _∙_}
 use mathlib.Core.Logic.{_⊎_, inl, inr}
 use Prim.Native.Nat.{ℕ, zero, suc, _+_, _*_, _≤_, _<_}
 use native.Mathlib.Omega.{arith}
@@ -29,7 +29,6 @@ pub record Later (R : Recipe) (d e f : ℕ) (s t : Low) : Type 0 where
   pub seenLong : length (t .seen) ≡ length (s .seen)
   pub marks : (x : ℕ) → (getD (t .seen) x 0 ≡ getD (s .seen) x 0) ⊎ ((getD (t .seen) x 0 ≡ 1) × (x ≤ d))
   pub same : (x : ℕ) → x < R .size → getD (t .seen) x 0 ≡ getD (s .seen) x 0 → Same R (s .core .map) (t .core .map) x
-  pub stop : t .core .stop ≡ 0 → s .core .stop ≡ 0
 
 -- the lengths that a table asks for
 pub record Sound (R : Recipe) (s : Low) : Type 0 where
@@ -53,7 +52,6 @@ later-same R d s =
       seenLong = refl;
       marks = λ x. inl refl;
       same = λ x h q j l. refl;
-      stop = λ h. h;
     }
 
 -- a node seen stays seen
@@ -78,6 +76,10 @@ seen-same l x h = grows l x h ∙ sym h
 
 pub sound-later : {R : Recipe} {d e f : ℕ} {s t : Low} → Sound R s → Later R d e f s t → Sound R t
 sound-later a l = record { mapped = l .mapLong ∙ a .mapped; nodes = l .seenLong ∙ a .nodes }
+
+pub mark-sound : {R : Recipe} (k : ℕ) (s : Low) → Sound R s → Sound R (mark k s)
+unfolding mark
+mark-sound k s d = record { mapped = d .mapped; nodes = length-set (s .seen) k 1 ∙ d .nodes }
 
 module _ {R : Recipe} {d : ℕ} {s t u : Low} (a : Later R d 0 0 s t) (b : Later R d 0 0 t u) where
   between : (x : ℕ) → getD (u .seen) x 0 ≡ getD (s .seen) x 0 → getD (t .seen) x 0 ≡ getD (s .seen) x 0
@@ -113,7 +115,6 @@ module _ {R : Recipe} {d : ℕ} {s t u : Low} (a : Later R d 0 0 s t) (b : Later
         seenLong = b .seenLong ∙ a .seenLong;
         marks = both;
         same = λ x h q j l. b .same x h (q ∙ sym (between x q)) j l ∙ a .same x h (between x q) j l;
-        stop = λ h. a .stop (b .stop h);
       }
 
 pub later-most : {R : Recipe} {c d : ℕ} {s t : Low} → c ≤ d → Later R c 0 0 s t → Later R d 0 0 s t
@@ -133,7 +134,6 @@ later-most {R} {c} {d} {s} {t} le l =
       seenLong = l .seenLong;
       marks = λ x. go x (l .marks x);
       same = l .same;
-      stop = l .stop;
     }
   where
     go : (x : ℕ) → (getD (t .seen) x 0 ≡ getD (s .seen) x 0) ⊎ ((getD (t .seen) x 0 ≡ 1) × (x ≤ c)) → (getD (t .seen) x 0 ≡ getD (s .seen) x 0) ⊎ ((getD (t .seen) x 0 ≡ 1) × (x ≤ d))
@@ -175,7 +175,23 @@ module _ {R : Recipe} (sh : Shape R) (law : OwnLaw R) where
 
     pub later-own : Later R k 0 0 s (owned R k u)
     unfolding mark owned
-    later-own = go (ℕ-discrete (u .core .stop) 0)
+    later-own =
+        record {
+          long = fr .grows .long ∙ l .long;
+          from = omega (arith, fr .grows .from, l .from);
+          gate = λ i h. fr .grows .same i (omega (arith, l .from)) ∙ l .gate i h;
+          paid = omega (arith, l .paid, pg, fr .grows .upto);
+          consLong = fr .consLong ∙ l .consLong;
+          consFrom = omega (arith, fr .consFrom, l .consFrom);
+          consSame = λ i h. fr .consSame i (omega (arith, l .consFrom)) ∙ l .consSame i h;
+          consPaid = omega (arith, l .consPaid, pa, fr .consUpto);
+          gatesRest = λ i h. fr .grows .rest i h ∙ l .gatesRest i (omega (arith, fr .grows .from));
+          consRest = λ i h. fr .consRest i h ∙ l .consRest i (omega (arith, fr .consFrom));
+          mapLong = fr .mapLong ∙ l .mapLong;
+          seenLong = l .seenLong ∙ length-set (s .seen) k 1;
+          marks = marks-at;
+          same = λ x h e j lj. frame-same sh (is .high) fr x h (not-it x e) j lj ∙ l .same x h (e ∙ sym (mark-other x (not-it x e))) j lj;
+        }
       where
         pg : left (R .gates) 0 (set (s .seen) k 1) + R .gates k ≡ left (R .gates) 0 (s .seen)
         pg = left-marked (R .gates) (s .seen) k (omega (arith, d .nodes, is .high)) un
@@ -183,54 +199,8 @@ module _ {R : Recipe} (sh : Shape R) (law : OwnLaw R) where
         pa : left (R .asks) 0 (set (s .seen) k 1) + R .asks k ≡ left (R .asks) 0 (s .seen)
         pa = left-marked (R .asks) (s .seen) k (omega (arith, d .nodes, is .high)) un
 
-        from-same : R .own k (u .core) ≡ u .core → Later R k 0 0 s (owned R k u)
-        from-same q =
-            subst (λ (c : Core). Later R k 0 0 s (record { core = c; seen = u .seen })) (sym q)
-            (record {
-              long = l .long;
-              from = l .from;
-              gate = l .gate;
-              paid = omega (arith, l .paid, pg);
-              consLong = l .consLong;
-              consFrom = l .consFrom;
-              consSame = l .consSame;
-              consPaid = omega (arith, l .consPaid, pa);
-              gatesRest = l .gatesRest;
-              consRest = l .consRest;
-              mapLong = l .mapLong;
-              seenLong = l .seenLong ∙ length-set (s .seen) k 1;
-              marks = marks-at;
-              same = λ x h e. l .same x h (e ∙ sym (mark-other x (not-it x e)));
-              stop = l .stop;
-            })
-
-        from-frame : Frame R k (u .core) (R .own k (u .core)) → u .core .stop ≡ 0 → Later R k 0 0 s (owned R k u)
-        from-frame fr z =
-            record {
-              long = fr .grows .long ∙ l .long;
-              from = omega (arith, fr .grows .from, l .from);
-              gate = λ i h. fr .grows .same i (omega (arith, l .from)) ∙ l .gate i h;
-              paid = omega (arith, l .paid, pg, fr .grows .upto);
-              consLong = fr .consLong ∙ l .consLong;
-              consFrom = omega (arith, fr .consFrom, l .consFrom);
-              consSame = λ i h. fr .consSame i (omega (arith, l .consFrom)) ∙ l .consSame i h;
-              consPaid = omega (arith, l .consPaid, pa, fr .consUpto);
-              gatesRest = λ i h. fr .grows .rest i h ∙ l .gatesRest i (omega (arith, fr .grows .from));
-              consRest = λ i h. fr .consRest i h ∙ l .consRest i (omega (arith, fr .consFrom));
-              mapLong = fr .mapLong ∙ l .mapLong;
-              seenLong = l .seenLong ∙ length-set (s .seen) k 1;
-              marks = marks-at;
-              same = λ x h e j lj. frame-same sh (is .high) fr x h (not-it x e) j lj ∙ l .same x h (e ∙ sym (mark-other x (not-it x e))) j lj;
-              stop = λ _. l .stop z;
-            }
-
-        go : Dec (u .core .stop ≡ 0) → Later R k 0 0 s (owned R k u)
-        go (no h) = from-same (law .idle k (u .core) h)
-        go (yes h) = from-frame (law .step k (u .core) is (l .mapLong ∙ d .mapped) h .frame) h
-
-  mark-sound : (k : ℕ) (s : Low) → Sound R s → Sound R (mark k s)
-  unfolding mark
-  mark-sound k s d = record { mapped = d .mapped; nodes = length-set (s .seen) k 1 ∙ d .nodes }
+        fr : Frame R k (u .core) (R .own k (u .core))
+        fr = law k (u .core) is (l .mapLong ∙ d .mapped) .frame
 
   abbrev pub Keeps : (ℕ → Low → Low) → Type 0
   Keeps go = (k : ℕ) (s : Low) → Sound R s → k < R .size → Later R k 0 0 s (go k s)
@@ -281,10 +251,8 @@ module _ {R : Recipe} (sh : Shape R) (law : OwnLaw R) where
   visit-later zero k s d lt = later-same R k s
   visit-later (suc f) k s d lt = go (visit-later f)
     where
-      go : Keeps (visitTo f R) → Later R k 0 0 s (pick (eqb (s .core .stop) 0) (pick (eqb k 0) s (pick (eqb (getD (s .seen) k 0) 1) s (enter (visitTo f R) R k (mark k s)))) s)
+      go : Keeps (visitTo f R) → Later R k 0 0 s (pick (eqb k 0) s (pick (eqb (getD (s .seen) k 0) 1) s (enter (visitTo f R) R k (mark k s))))
       go keeps =
-          pick-eq (Later R k 0 0 s) (s .core .stop) 0
-          (λ _. pick-eq (Later R k 0 0 s) k 0 (λ _. later-same R k s)
+          pick-eq (Later R k 0 0 s) k 0 (λ _. later-same R k s)
           (λ nz. pick-eq (Later R k 0 0 s) (getD (s .seen) k 0) 1 (λ _. later-same R k s)
-          (λ un. enter-later (visitTo f R) keeps k s d (record { low = positive k nz; high = lt }) un)))
-          (λ _. later-same R k s)
+          (λ un. enter-later (visitTo f R) keeps k s d (record { low = positive k nz; high = lt }) un))

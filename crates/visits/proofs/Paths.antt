@@ -8,26 +8,21 @@ use Rattle.loops.specs.Loop.{pick}
 use Rattle.visits.specs.Flow.{Core, Low, Recipe, owned, enter, mark, visitTo}
 
 module _ (R : Recipe) (k : ℕ) where
-  pub visit-stopped : (f : ℕ) (s : Low) → (s .core .stop ≡ 0 → ⊥) → s ≡ visitTo f R k s
+  pub visit-none : (f : ℕ) (s : Low) → k ≡ 0 → s ≡ visitTo f R k s
   unfolding visitTo pick
-  visit-stopped zero s h = refl
-  visit-stopped (suc f) s h = sym (simp (ne-eqb _ _ h))
+  visit-none zero s z = refl
+  visit-none (suc f) s z = sym (simp (eq-eqb _ _ z))
 
-  pub visit-none : (f : ℕ) (s : Low) → s .core .stop ≡ 0 → k ≡ 0 → s ≡ visitTo f R k s
+  pub visit-seen : (f : ℕ) (s : Low) → (k ≡ 0 → ⊥) → getD (s .seen) k 0 ≡ 1 → s ≡ visitTo f R k s
   unfolding visitTo pick
-  visit-none zero s h z = refl
-  visit-none (suc f) s h z = sym (simp (eq-eqb _ _ h, eq-eqb _ _ z))
+  visit-seen zero s z e = refl
+  visit-seen (suc f) s z e = sym (simp (ne-eqb _ _ z, eq-eqb _ _ e))
 
-  pub visit-seen : (f : ℕ) (s : Low) → s .core .stop ≡ 0 → (k ≡ 0 → ⊥) → getD (s .seen) k 0 ≡ 1 → s ≡ visitTo f R k s
-  unfolding visitTo pick
-  visit-seen zero s h z e = refl
-  visit-seen (suc f) s h z e = sym (simp (eq-eqb _ _ h, ne-eqb _ _ z, eq-eqb _ _ e))
-
-  pub visit-goes : (f : ℕ) (s r : Low) → k < f → s .core .stop ≡ 0 → (k ≡ 0 → ⊥) → (getD (s .seen) k 0 ≡ 1 → ⊥)
+  pub visit-goes : (f : ℕ) (s r : Low) → k < f → (k ≡ 0 → ⊥) → (getD (s .seen) k 0 ≡ 1 → ⊥)
       → ((g : ℕ) → k ≤ g → r ≡ enter (visitTo g R) R k (record { core = s .core; seen = set (s .seen) k 1 })) → r ≡ visitTo f R k s
   unfolding visitTo mark pick
-  visit-goes zero s r lt h z e step = absurd (omega arith)
-  visit-goes (suc f) s r lt h z e step = step f (omega arith) ∙ sym (simp (eq-eqb _ _ h, ne-eqb _ _ z, ne-eqb _ _ e))
+  visit-goes zero s r lt z e step = absurd (omega arith)
+  visit-goes (suc f) s r lt z e step = step f (omega arith) ∙ sym (simp (ne-eqb _ _ z, ne-eqb _ _ e))
 
   -- the visits of a node's operands one by one, and then its own gates
   pub enter-done : (go : ℕ → Low → Low) (s s1 s2 s3 : Low) (r : Core) {a b c : ℕ} → a ≡ R .first k → s1 ≡ go a s → b ≡ R .second (s1 .core .map) k → s2 ≡ go b s1

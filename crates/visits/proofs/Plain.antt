@@ -7,7 +7,6 @@ use borrow.Author.Tests.{eq-eqb}
 use Rattle.netlist.specs.declared.record.Gate.{Gate}
 use Rattle.netlist.specs.Record.{gateAt}
 use Rattle.loops.specs.Loop.{pick}
-use Rattle.netlist.specs.Kind.{free}
 use Rattle.visits.specs.Flow.{Core, Recipe}
 use Rattle.visits.specs.Claims.{Meaning, freeValue, Plain, StepRight}
 
@@ -20,11 +19,10 @@ plain-right {R} {M} {k} {s} {t} p =
     record {
       sound = λ e ce o me.
           record {
-            divides = p .divides e ce o;
             frees = λ g lo hi fr.
                 let two : gateAt (t .net .gates) g .kind ≡ 2 = p .only (ce .obeys .room) g lo hi fr in
                 ce .inputs g hi two ∙ sym (input-value M (gateAt (t .net .gates) g) two);
             right = p .right e ce o;
           };
-      complete = λ e ce o _ fe i lo hi. absurd (omega (arith, p .asks));
+      complete = λ e ce o fe i lo hi. absurd (omega (arith, p .asks));
     }

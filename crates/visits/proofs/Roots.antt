@@ -30,50 +30,50 @@ module _ {R : Recipe} (sh : Shape R) (law : OwnLaw R) {G : Low → Type 0} {P : 
   -- after the bad nodes below i
   pub record Rooted (i : ℕ) (t : Low) : Type 0 where
     pub later : Later R (R .size) 0 0 s t
-    pub holds : t .core .stop ≡ 0 → Holds R G P (R .size) t
-    pub bad : t .core .stop ≡ 0 → (k : ℕ) → Is R k → k < i → R .bad k ≡ true → Seen t k
-    pub reached : t .core .stop ≡ 0 → (u : Low) → Stays R (R .size) t u → (x : ℕ) → Seen t x → Reached R (u .core .map) x
+    pub holds : Holds R G P (R .size) t
+    pub bad : (k : ℕ) → Is R k → k < i → R .bad k ≡ true → Seen t k
+    pub reached : (u : Low) → Stays R (R .size) t u → (x : ℕ) → Seen t x → Reached R (u .core .map) x
 
   rooted-none : Rooted 0 s
   rooted-none =
       record {
         later = later-same R (R .size) s;
-        holds = λ _. record { all = g; each = λ j is lt z. absurd (omega (arith, z, start .none j)) };
-        bad = λ _ k is lt. absurd (omega arith);
-        reached = λ _ u st x sx. absurd (omega (arith, sx, start .none x));
+        holds = record { all = g; each = λ j is lt z. absurd (omega (arith, z, start .none j)) };
+        bad = λ k is lt. absurd (omega arith);
+        reached = λ u st x sx. absurd (omega (arith, sx, start .none x));
       }
 
   rooted-visit : (i : ℕ) (t : Low) → i < R .size → R .bad i ≡ true → Rooted i t → Rooted (suc i) (visitTo (suc i) R i t)
   rooted-visit i t lt isbad r =
       let d : Sound R t = sound-later (start-sound start) (r .later) in
       let l : Later R i 0 0 t (visitTo (suc i) R i t) = visit-later sh law (suc i) i t d lt in
-      let v : visitTo (suc i) R i t .core .stop ≡ 0 → Visited sh law inv (R .size) i t (visitTo (suc i) R i t) =
-      λ z. visit-holds sh law inv (suc i) (R .size) i 0 0 t (omega arith) lt (omega arith) d (fit-later (start-fit start) (r .later)) (r .holds (l .stop z)) z in
+      let v : Visited sh law inv (R .size) i t (visitTo (suc i) R i t) =
+      visit-holds sh law inv (suc i) (R .size) i 0 0 t (omega arith) lt (omega arith) d (fit-later (start-fit start) (r .later)) (r .holds) in
       record {
         later = later-then (r .later) (later-most (omega arith) l);
-        holds = λ z. v z .holds;
-        bad = λ z k is lk b. at l v z k is lk b (ℕ-discrete k i);
-        reached = λ z u st x sx. old l v z u st x sx (ℕ-discrete (getD (t .seen) x 0) 1);
+        holds = v .holds;
+        bad = λ k is lk b. at l v k is lk b (ℕ-discrete k i);
+        reached = λ u st x sx. old l v u st x sx (ℕ-discrete (getD (t .seen) x 0) 1);
       }
     where
-      old : Later R i 0 0 t (visitTo (suc i) R i t) → (visitTo (suc i) R i t .core .stop ≡ 0 → Visited sh law inv (R .size) i t (visitTo (suc i) R i t))
-          → visitTo (suc i) R i t .core .stop ≡ 0 → (u : Low) → Stays R (R .size) (visitTo (suc i) R i t) u → (x : ℕ) → Seen (visitTo (suc i) R i t) x → Dec (Seen t x) → Reached R (u .core .map) x
-      old l v z u st x sx (yes q) =
-          r .reached (l .stop z) u (λ y hy ly sy j lj. st y hy ly (grows l y sy) j lj ∙ l .same y hy (seen-same l y sy) j lj) x q
-      old l v z u st x sx (no q) =
-          v z .reaches u (λ y hy ly sy. st y hy (omega arith) sy) (λ nz. root (record { low = positive i nz; high = lt }) isbad) x sx q
+      old : Later R i 0 0 t (visitTo (suc i) R i t) → Visited sh law inv (R .size) i t (visitTo (suc i) R i t)
+          → (u : Low) → Stays R (R .size) (visitTo (suc i) R i t) u → (x : ℕ) → Seen (visitTo (suc i) R i t) x → Dec (Seen t x) → Reached R (u .core .map) x
+      old l v u st x sx (yes q) =
+          r .reached u (λ y hy ly sy j lj. st y hy ly (grows l y sy) j lj ∙ l .same y hy (seen-same l y sy) j lj) x q
+      old l v u st x sx (no q) =
+          v .reaches u (λ y hy ly sy. st y hy (omega arith) sy) (λ nz. root (record { low = positive i nz; high = lt }) isbad) x sx q
 
-      at : Later R i 0 0 t (visitTo (suc i) R i t) → (visitTo (suc i) R i t .core .stop ≡ 0 → Visited sh law inv (R .size) i t (visitTo (suc i) R i t))
-          → visitTo (suc i) R i t .core .stop ≡ 0 → (k : ℕ) → Is R k → k < suc i → R .bad k ≡ true → Dec (k ≡ i) → Seen (visitTo (suc i) R i t) k
-      at l v z k is lk b (yes q) = subst (λ (x : ℕ). Seen (visitTo (suc i) R i t) x) (sym q) (v z .seen (omega (arith, is .low)))
-      at l v z k is lk b (no q) = grows l k (r .bad (l .stop z) k is (omega arith) b)
+      at : Later R i 0 0 t (visitTo (suc i) R i t) → Visited sh law inv (R .size) i t (visitTo (suc i) R i t)
+          → (k : ℕ) → Is R k → k < suc i → R .bad k ≡ true → Dec (k ≡ i) → Seen (visitTo (suc i) R i t) k
+      at l v k is lk b (yes q) = subst (λ (x : ℕ). Seen (visitTo (suc i) R i t) x) (sym q) (v .seen (omega (arith, is .low)))
+      at l v k is lk b (no q) = grows l k (r .bad k is (omega arith) b)
 
   rooted-skip : (i : ℕ) (t : Low) → R .bad i ≡ false → Rooted i t → Rooted (suc i) t
-  rooted-skip i t nb r = record { later = r .later; holds = r .holds; reached = r .reached; bad = λ z k is lk b. at z k is lk b (ℕ-discrete k i) }
+  rooted-skip i t nb r = record { later = r .later; holds = r .holds; reached = r .reached; bad = λ k is lk b. at k is lk b (ℕ-discrete k i) }
     where
-      at : t .core .stop ≡ 0 → (k : ℕ) → Is R k → k < suc i → R .bad k ≡ true → Dec (k ≡ i) → Seen t k
-      at z k is lk b (yes q) = contrary b (ap (R .bad) q ∙ nb)
-      at z k is lk b (no q) = r .bad z k is (omega arith) b
+      at : (k : ℕ) → Is R k → k < suc i → R .bad k ≡ true → Dec (k ≡ i) → Seen t k
+      at k is lk b (yes q) = contrary b (ap (R .bad) q ∙ nb)
+      at k is lk b (no q) = r .bad k is (omega arith) b
 
   rooted-step : (i : ℕ) (t : Low) → i < R .size → Rooted i t → Rooted (suc i) (rootStep R i t)
   unfolding rootStep

@@ -29,7 +29,6 @@ pub record NodeNet (R : Recipe) (s : Low) (k : ℕ) : Type 0 where
   pub below : Under R (s .core .net .n) (s .core .map) k
   pub known : NoGiven R s → Under R 2 (s .core .map) k
   pub closed : Operands R (s .core .map) k (Seen s)
-  pub runs : R .blocked (s .core .map) k ≡ false
 
 pub under-same : (R : Recipe) (m t : List ℕ) (k : ℕ) {b c : ℕ} → b ≤ c → Same R m t k → Under R b m k → Under R c t k
 under-same R m t k le h u j lt = omega (arith, h j lt, u j lt)
@@ -39,7 +38,7 @@ operands-map f o = record { first = λ h. f _ (o .first h); second = λ h. f _ (
 
 pub ready-of : {R : Recipe} {k : ℕ} {s : Low} → Can R k s → WholeNet R s → Operands R (s .core .map) k (NodeNet R s) → Ready R k (s .core)
 ready-of c g o =
-    record { is = c .is; run = c .run; mapped = c .mapped; room = c .room; roomAsks = c .roomAsks; formed = g .formed; below = operands-map (λ j p. p .below) o }
+    record { is = c .is; mapped = c .mapped; room = c .room; roomAsks = c .roomAsks; formed = g .formed; below = operands-map (λ j p. p .below) o }
 
 -- below the node j, what is seen keeps its bits
 abbrev Lower : Recipe → ℕ → Low → Low → Type 0
@@ -65,22 +64,17 @@ module _ {R : Recipe} (sh : Shape R) (law : OwnLaw R) where
         third = subst (λ (x : ℕ). (x ≡ 0 → ⊥) → Seen t x) (sym c) (λ q. grown (R .third (s .core .map) j) (o .third q));
       }
 
-  runs-keep : (j : ℕ) (s t : Low) → Is R j → Lower R j s t → Operands R (s .core .map) j (Seen s) → R .blocked (s .core .map) j ≡ false → R .blocked (t .core .map) j ≡ false
-  runs-keep j s t is st o h =
-      sh .blocked-same (s .core .map) (t .core .map) j is
-      (operand-same j (R .second (s .core .map) j) s t st (sh .second (s .core .map) j is) (o .second)) ∙ h
-
-  pub net-own : (k : ℕ) (s : Low) → Can R k s → WholeNet R s → Operands R (s .core .map) k (Seen s) → Operands R (s .core .map) k (NodeNet R s) → R .own k (s .core) .stop ≡ 0
+  pub net-own : (k : ℕ) (s : Low) → Can R k s → WholeNet R s → Operands R (s .core .map) k (Seen s) → Operands R (s .core .map) k (NodeNet R s)
       → WholeNet R (owned R k s) × NodeNet R (owned R k s) k
   unfolding owned
-  net-own k s c g sn o z =
+  net-own k s c g sn o =
       let r : Ready R k (s .core) = ready-of c g o in
-      let st : Step R k (s .core) (R .own k (s .core)) = law .step k (s .core) (c .is) (c .mapped) (c .run) in
+      let st : Step R k (s .core) (R .own k (s .core)) = law k (s .core) (c .is) (c .mapped) in
       let stays : Lower R k s (owned R k s) = λ x lx sx. frame-same sh (c .is .high) (st .frame) x (omega (arith, c .is .high)) (omega arith) in
-      let f : Formed (R .own k (s .core) .net) × Under R (R .own k (s .core) .net .n) (R .own k (s .core) .map) k = law .step k (s .core) (c .is) (c .mapped) (c .run) .formed r z in
+      let f : Formed (R .own k (s .core) .net) × Under R (R .own k (s .core) .net .n) (R .own k (s .core) .map) k = st .formed r in
       let q : NoGiven R s → (R .own k (s .core) .net .n ≡ s .core .net .n) × (R .own k (s .core) .nc ≡ s .core .nc) × Under R 2 (R .own k (s .core) .map) k =
-      λ no. law .step k (s .core) (c .is) (c .mapped) (c .run) .known r z (no k (c .is) (c .seen)) (operands-map (λ j p. p .known no) o) in
-      (record { formed = f .0; asked = λ i hi. asked-at st r i hi (decLt i (s .core .nc)); known = λ no. (q no .0 ∙ g .known no .0, q no .1 ∙ g .known no .1) }, record { below = f .1; known = λ no. q no .2; closed = closed-keep k s (owned R k s) (c .is) stays (λ x h. h) sn; runs = runs-keep k s (owned R k s) (c .is) stays sn (st .runs z) })
+      λ no. st .known r (no k (c .is) (c .seen)) (operands-map (λ j p. p .known no) o) in
+      (record { formed = f .0; asked = λ i hi. asked-at st r i hi (decLt i (s .core .nc)); known = λ no. (q no .0 ∙ g .known no .0, q no .1 ∙ g .known no .1) }, record { below = f .1; known = λ no. q no .2; closed = closed-keep k s (owned R k s) (c .is) stays (λ x h. h) sn })
     where
       asked-at : Step R k (s .core) (R .own k (s .core)) → Ready R k (s .core) → (i : ℕ) → i < R .own k (s .core) .nc → Dec (i < s .core .nc) → Asked (R .own k (s .core)) i
       asked-at st r i hi (yes h) =
@@ -88,7 +82,7 @@ module _ {R : Recipe} (sh : Shape R) (law : OwnLaw R) where
           let p : getD (R .own k (s .core) .cons) (2 * i) 0 ≡ getD (s .core .cons) (2 * i) 0 = st .frame .consSame (2 * i) (omega arith) in
           let q : getD (R .own k (s .core) .cons) (2 * i + 1) 0 ≡ getD (s .core .cons) (2 * i + 1) 0 = st .frame .consSame (2 * i + 1) (omega arith) in
           (omega (arith, a .0, p, st .frame .grows .from), omega (arith, a .1, q))
-      asked-at st r i hi (no h) = st .asked r z i (omega arith) hi
+      asked-at st r i hi (no h) = st .asked r i (omega arith) hi
 
   pub net-invariant : Invariant R (WholeNet R) (NodeNet R)
   unfolding mark
@@ -97,7 +91,7 @@ module _ {R : Recipe} (sh : Shape R) (law : OwnLaw R) where
         keep = λ j s t is sj l st p.
             let lower : Lower R j s t = λ x lx sx. st x (omega (arith, is .high)) (omega arith) sx in
             let h : Same R (s .core .map) (t .core .map) j = st j (is .high) (omega arith) sj in
-            record { closed = closed-keep j s t is lower (l .grown) (p .closed); runs = runs-keep j s t is lower (p .closed) (p .runs); below = under-same R (s .core .map) (t .core .map) j (l .from) h (p .below); known = λ no. under-same R (s .core .map) (t .core .map) j (omega arith) h (p .known (λ k is z. no k is (l .grown k z))) };
+            record { closed = closed-keep j s t is lower (l .grown) (p .closed); below = under-same R (s .core .map) (t .core .map) j (l .from) h (p .below); known = λ no. under-same R (s .core .map) (t .core .map) j (omega arith) h (p .known (λ k is z. no k is (l .grown k z))) };
         marks = λ k s l g. record { formed = g .formed; asked = g .asked; known = λ no. g .known (λ j is z. no j is (l .grown j z)) };
         owns = net-own;
       }
@@ -132,11 +126,11 @@ module _ {R : Recipe} (sh : Shape R) (law : OwnLaw R) where
       )
 
   -- what is seen has paid
-  pub small : (s : Low) → Start R s → lowerTo R s .core .stop ≡ 0 → Small R s (lowerTo R s)
-  small s start z =
+  pub small : (s : Low) → Start R s → Small R s (lowerTo R s)
+  small s start =
       let t : Low = lowerTo R s in
       let r : Rooted sh law net-invariant s start (start-net start) (R .size) t = rooted sh law net-invariant s start (start-net start) in
-      let h : Holds R (WholeNet R) (NodeNet R) (R .size) t = r .holds z in
+      let h : Holds R (WholeNet R) (NodeNet R) (R .size) t = r .holds in
       let len : length (t .seen) ≡ R .size = r .later .seenLong ∙ start .nodes in
       let sums : (c : ℕ → ℕ) → spent c 0 (t .seen) + left c 0 (t .seen) ≡ sumFrom c 0 (R .size) = λ c. spent-left c 0 (t .seen) ∙ ap (sumFrom c 0) len in
       record {
@@ -146,10 +140,9 @@ module _ {R : Recipe} (sh : Shape R) (law : OwnLaw R) where
         asks = omega (arith, r .later .consPaid, sums (R .asks), start-left start (R .asks), start .zero);
         below = λ k is q. h .each k is (is .high) q .below;
         known = λ no. (h .all .known no .0, h .all .known no .1, λ k is q. h .each k is (is .high) q .known no);
-        bad = λ k is b. r .bad z k is (is .high) b;
+        bad = λ k is b. r .bad k is (is .high) b;
         closed = λ k is q. h .each k is (is .high) q .closed;
-        runs = λ k is q. h .each k is (is .high) q .runs;
-        reached = λ k is. (r .reached z t (λ x hx lx sx j lj. refl) k, λ q. seen-reached t (r .bad z) (λ j ij sj. h .each j ij (ij .high) sj .closed) k q .1);
+        reached = λ k is. (r .reached t (λ x hx lx sx j lj. refl) k, λ q. seen-reached t (r .bad) (λ j ij sj. h .each j ij (ij .high) sj .closed) k q .1);
         gatesRest = r .later .gatesRest;
         consRest = r .later .consRest;
         unseen = λ k is un. r .later .same k (is .high) (unseen-mark (r .later) k un);

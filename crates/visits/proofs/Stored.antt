@@ -1,7 +1,6 @@
 -- From the law of a word to the law of a step.
-use mathlib.Core.Path.{_≡_, refl}
+use mathlib.Core.Path.{refl}
 use mathlib.Core.List.{List}
-use mathlib.Core.Bool.{false}
 use Prim.Native.Nat.{ℕ, _+_, _≤_}
 use native.Mathlib.Omega.{arith}
 use lib.ListN.{length}
@@ -26,9 +25,9 @@ module _ (R : Recipe) (k : ℕ) (s : Core) (net : Net) (out : List ℕ) (fits : 
   under : (b : ℕ) → Below b out (R .bits k) → Under R b (putBits (R .off k) out (R .bits k) (s .map)) k
   under b h j lt = omega (arith, h j lt, here .there j lt)
 
-  pub word-step : s .stop ≡ 0 → R .blocked (s .map) k ≡ false → WordLaw R k s net out → Step R k s (stored (R .off k) (R .bits k) s net out)
+  pub word-step : WordLaw R k s net out → Step R k s (stored (R .off k) (R .bits k) s net out)
   unfolding stored
-  word-step run nb law =
+  word-step law =
       record {
         frame =
             record {
@@ -42,9 +41,7 @@ module _ (R : Recipe) (k : ℕ) (s : Core) (net : Net) (out : List ℕ) (fits : 
               mapBelow = here .below;
               mapAbove = here .above;
             };
-        stops = λ ne. absurd (ne run);
-        runs = λ _. nb;
-        formed = λ r _. (law .formed r .0, under (net .n) (law .formed r .1));
-        asked = λ r _ i lo hi. absurd (omega arith);
-        known = λ r _ g o. (law .known r g o .0, refl, under 2 (law .known r g o .1));
+        formed = λ r. (law .formed r .0, under (net .n) (law .formed r .1));
+        asked = λ r i lo hi. absurd (omega arith);
+        known = λ r g o. (law .known r g o .0, refl, under 2 (law .known r g o .1));
       }

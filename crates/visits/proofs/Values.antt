@@ -1,5 +1,5 @@
 -- Demand 2 over the whole lowering.
-use mathlib.Core.Path.{_≡_, refl, sym, ap, _∙_, subst}
+use mathlib.Core.Path.{_≡_, sym, ap, _∙_, subst}
 use mathlib.Core.List.{List}
 use mathlib.Core.Bool.{Bool, true, false}
 use Prim.Native.Nat.{ℕ, zero, suc, _+_, _*_, _<_}
@@ -15,7 +15,7 @@ use Rattle.loops.specs.Loop.{pick}
 use Rattle.netlist.specs.Kind.{free}
 use Rattle.gates.specs.Law.{Formed}
 use Rattle.gates.proofs.FormedLaws.{one-assignment, solved, solved-obeys, solved-given}
-use Rattle.visits.specs.Flow.{Low, Recipe, owned, mark, lowerTo}
+use Rattle.visits.specs.Flow.{Core, Low, Recipe, owned, mark, lowerTo}
 use Rattle.visits.specs.Claims.{Same, Seen, Is, Meaning, Right, freeValue, Frees, Considered, Met, Operands, Reached, Shape, OwnLaw, OwnRight, Fine, Ready, Start, Lowered}
 use Rattle.visits.proofs.Marks.{contrary}
 use Rattle.visits.proofs.Walk.{Kept, kept-own, Can, Invariant, Holds, Fit, fit-later}
@@ -72,82 +72,67 @@ frees-inputs {M} {s} {e} o f = record { obeys = o; inputs = λ g h. at (gateAt (
     at : (x : Gate) (v : Bool) → (free (x .kind) ≡ true → v ≡ freeValue M x) → x .kind ≡ 2 → v ≡ M .value (x .x) (x .y)
     at x v h k = rw (eq-eqb (x .kind) 2 k) at (h (rw (eq-eqb (x .kind) 2 k)))
 
--- of the whole: who meets the constraints has right free gates, and who has right free gates and divides by no zero meets them
-pub record WholeValues (R : Recipe) (M : Meaning) (s : Low) : Type 0 where
-  pub full : (e : Assign) → Considered M (s .core .net) e → Met (s .core) 0 e → Frees M (s .core .net) 0 e
-  pub meets : (e : Assign) → Considered M (s .core .net) e → Frees M (s .core .net) 0 e → ((k : ℕ) → Is R k → Seen s k → M .byZero k ≡ false) → Met (s .core) 0 e
+-- of the whole: who meets the constraints has right free gates, and who has right free gates meets them
+pub record WholeValues (M : Meaning) (s : Core) : Type 0 where
+  pub full : (e : Assign) → Considered M (s .net) e → Met s 0 e → Frees M (s .net) 0 e
+  pub meets : (e : Assign) → Considered M (s .net) e → Frees M (s .net) 0 e → Met s 0 e
 
--- of a node: under who meets the constraints, its bits are right and it does not divide by zero
-pub record NodeValues (R : Recipe) (M : Meaning) (s : Low) (k : ℕ) : Type 0 where
-  pub right : (e : Assign) → Considered M (s .core .net) e → Met (s .core) 0 e → Right R M e (s .core .map) k
-  pub divides : (e : Assign) → Considered M (s .core .net) e → Met (s .core) 0 e → M .byZero k ≡ false
+-- of a node: under who meets the constraints, its bits are right
+abbrev pub NodeValues : Recipe → Meaning → Core → ℕ → Type 0
+NodeValues R M s k = (e : Assign) → Considered M (s .net) e → Met s 0 e → Right R M e (s .map) k
 
 module _ {R : Recipe} {M : Meaning} (sh : Shape R) (law : OwnLaw R) (rights : OwnRight R M) where
   record Whole (s : Low) : Type 0 where
     pub net : WholeNet R s
-    pub values : WholeValues R M s
+    pub values : WholeValues M (s .core)
 
   record Node (s : Low) (k : ℕ) : Type 0 where
     pub net : NodeNet R s k
-    pub values : NodeValues R M s k
+    pub values : NodeValues R M (s .core) k
 
   -- the node's own step
-  module _ (k : ℕ) (s : Low) (c : Can R k s) (g : Whole s) (sn : Operands R (s .core .map) k (Seen s)) (o : Operands R (s .core .map) k (Node s)) (z : R .own k (s .core) .stop ≡ 0) where
+  module _ (k : ℕ) (s : Low) (c : Can R k s) (g : Whole s) (sn : Operands R (s .core .map) k (Seen s)) (o : Operands R (s .core .map) k (Node s)) where
     ready : Ready R k (s .core)
     ready = ready-of c (g .net) (operands-map (λ j p. p .net) o)
 
     kept : Kept s (owned R k s)
-    kept = kept-own k s (law .step k (s .core) (c .is) (c .mapped) (c .run) .frame)
+    kept = kept-own k s (law k (s .core) (c .is) (c .mapped) .frame)
 
     operands-right : (e : Assign) → Considered M (s .core .net) e → Met (s .core) 0 e → Operands R (s .core .map) k (Right R M e (s .core .map))
-    operands-right e ce me = operands-map (λ j p. p .values .right e ce me) o
+    operands-right e ce me = operands-map (λ j p. p .values e ce me) o
 
     fine : (e : Assign) → Considered M (owned R k s .core .net) e → Met (owned R k s .core) 0 e → Fine R M k (s .core) (R .own k (s .core)) e
     unfolding owned
     fine e ce me =
-        rights k (s .core) ready z .sound e ce (operands-right e (considered-kept M e kept ce) (met-kept M e kept me)) (λ i lo hi. me i (omega arith) hi)
+        rights k (s .core) ready .sound e ce (operands-right e (considered-kept M e kept ce) (met-kept M e kept me)) (λ i lo hi. me i (omega arith) hi)
 
     values-own : Whole (owned R k s) × Node (owned R k s) k
     unfolding owned
     values-own =
-        let nets : WholeNet R (owned R k s) × NodeNet R (owned R k s) k = net-own sh law k s c (g .net) sn (operands-map (λ j p. p .net) o) z in
-        (record { net = nets .0; values = record { full = full; meets = meets } }, record { net = nets .1; values = record { right = right; divides = divides } })
+        let nets : WholeNet R (owned R k s) × NodeNet R (owned R k s) k = net-own sh law k s c (g .net) sn (operands-map (λ j p. p .net) o) in
+        (record { net = nets .0; values = record { full = full; meets = meets } }, record { net = nets .1; values = λ e ce me. fine e ce me .right })
       where
         full : (e : Assign) → Considered M (owned R k s .core .net) e → Met (owned R k s .core) 0 e → Frees M (owned R k s .core .net) 0 e
         full e ce me = frees-more M e kept (g .values .full e (considered-kept M e kept ce) (met-kept M e kept me)) (fine e ce me .frees)
 
-        meets : (e : Assign) → Considered M (owned R k s .core .net) e → Frees M (owned R k s .core .net) 0 e → ((j : ℕ) → Is R j → Seen (owned R k s) j → M .byZero j ≡ false)
-            → Met (owned R k s .core) 0 e
-        meets e ce fe nz =
+        meets : (e : Assign) → Considered M (owned R k s .core .net) e → Frees M (owned R k s .core .net) 0 e → Met (owned R k s .core) 0 e
+        meets e ce fe =
             let ces : Considered M (s .core .net) e = considered-kept M e kept ce in
-            let ms : Met (s .core) 0 e = g .values .meets e ces (frees-kept M e kept fe) nz in
-            met-more M e kept ms (rights k (s .core) ready z .complete e ce (operands-right e ces ms) (nz k (c .is) (c .seen)) (λ i lo hi. fe i (omega arith) hi))
-
-        right : (e : Assign) → Considered M (owned R k s .core .net) e → Met (owned R k s .core) 0 e → Right R M e (owned R k s .core .map) k
-        right e ce me = fine e ce me .right
-
-        divides : (e : Assign) → Considered M (owned R k s .core .net) e → Met (owned R k s .core) 0 e → M .byZero k ≡ false
-        divides e ce me = fine e ce me .divides
+            let ms : Met (s .core) 0 e = g .values .meets e ces (frees-kept M e kept fe) in
+            met-more M e kept ms (rights k (s .core) ready .complete e ce (operands-right e ces ms) (λ i lo hi. fe i (omega arith) hi))
 
   right-same : (e : Assign) (m t : List ℕ) (k : ℕ) → Same R m t k → Right R M e m k → Right R M e t k
   right-same e m t k h r j lt = ap e (h j lt) ∙ r j lt
 
-  values-keep : (j : ℕ) (s t : Low) → Kept s t → Same R (s .core .map) (t .core .map) j → NodeValues R M s j → NodeValues R M t j
-  values-keep j s t l h p =
-      record {
-        right = λ e ce me. right-same e (s .core .map) (t .core .map) j h (p .right e (considered-kept M e l ce) (met-kept M e l me));
-        divides = λ e ce me. p .divides e (considered-kept M e l ce) (met-kept M e l me);
-      }
-
-  values-mark : (k : ℕ) (s : Low) → Kept s (mark k s) → WholeValues R M s → WholeValues R M (mark k s)
-  unfolding mark
-  values-mark k s l g = record { full = g .full; meets = λ e ce fe nz. g .meets e ce fe (λ j is z. nz j is (l .grown j z)) }
+  values-keep : (j : ℕ) (s t : Low) → Kept s t → Same R (s .core .map) (t .core .map) j → NodeValues R M (s .core) j → NodeValues R M (t .core) j
+  values-keep j s t l h p e ce me = right-same e (s .core .map) (t .core .map) j h (p e (considered-kept M e l ce) (met-kept M e l me))
 
   values-invariant : Invariant R Whole Node
+  unfolding mark
   values-invariant =
       record {
         keep = λ j s t is sj l st p. record { net = net-invariant sh law .keep j s t is sj l st (p .net); values = values-keep j s t l (st j (is .high) (omega arith) sj) (p .values) };
-        marks = λ k s l g. record { net = net-invariant sh law .marks k s l (g .net); values = values-mark k s l (g .values) };
+        marks = λ k s l g. record { net = net-invariant sh law .marks k s l (g .net); values = g .values };
         owns = values-own;
       }
 
@@ -158,9 +143,9 @@ module _ {R : Recipe} {M : Meaning} (sh : Shape R) (law : OwnLaw R) (rights : Ow
   start-free h (suc zero) lt = rw (h .formed .high)
   start-free h (suc (suc i)) lt = absurd (omega (arith, h .two))
 
-  start-values : {s : Low} → Start R s → WholeValues R M s
+  start-values : {s : Low} → Start R s → WholeValues M (s .core)
   start-values h =
-      record { full = λ e ce me i lo hi fr. contrary fr (start-free h i hi); meets = λ e ce fe nz i lo hi. absurd (omega (arith, h .zero)) }
+      record { full = λ e ce me i lo hi fr. contrary fr (start-free h i hi); meets = λ e ce fe i lo hi. absurd (omega (arith, h .zero)) }
 
   -- the one assignment that has the right values at the free gates
   witness : (s : Net) → Formed s → Room (s .gates) (s .n) → (e : Assign) × Obeys s e × Frees M s 0 e
@@ -168,23 +153,22 @@ module _ {R : Recipe} {M : Meaning} (sh : Shape R) (law : OwnLaw R) (rights : Ow
       let given : Assign = λ i. freeValue M (gateAt (s .gates) i) in
       (solved s f room given, solved-obeys s f room given, λ i lo hi fr. solved-given s f room given i hi fr)
 
-  pub lowered : (s : Low) → Start R s → lowerTo R s .core .stop ≡ 0 → Lowered R M (lowerTo R s)
-  lowered s start z =
+  pub lowered : (s : Low) → Start R s → Lowered R M (lowerTo R s)
+  lowered s start =
       let t : Low = lowerTo R s in
       let g : Whole s = record { net = start-net sh law start; values = start-values start } in
       let r : Rooted sh law values-invariant s start g (R .size) t = rooted sh law values-invariant s start g in
-      let h : Holds R Whole Node (R .size) t = r .holds z in
+      let h : Holds R Whole Node (R .size) t = r .holds in
       let fit : Fit R 0 0 t = fit-later (start-fit start) (r .later) in
       let formed : Formed (t .core .net) = h .all .net .formed in
-      let found : (k : ℕ) → Reached R (t .core .map) k → Is R k × Seen t k = seen-reached sh law t (r .bad z) (λ j ij sj. h .each j ij (ij .high) sj .net .closed) in
+      let found : (k : ℕ) → Reached R (t .core .map) k → Is R k × Seen t k = seen-reached sh law t (r .bad) (λ j ij sj. h .each j ij (ij .high) sj .net .closed) in
       record {
-        right = λ e ce me k q. h .each k (found k q .0) (found k q .0 .high) (found k q .1) .values .right e ce me;
-        exists = λ nz.
+        right = λ e ce me k q. h .each k (found k q .0) (found k q .0 .high) (found k q .1) .values e ce me;
+        exists =
             let w : (e : Assign) × Obeys (t .core .net) e × Frees M (t .core .net) 0 e = witness (t .core .net) formed (omega (arith, fit .room)) in
             let ce : Considered M (t .core .net) (w .0) = frees-inputs (w .1) (w .2) in
-            (w .0, ce, h .all .values .meets (w .0) ce (w .2) (λ k is q. nz k (r .reached z t (λ x hx lx sx j lj. refl) k q)));
+            (w .0, ce, h .all .values .meets (w .0) ce (w .2));
         one = λ e d ce me cd md.
             one-assignment (t .core .net) formed e d (ce .obeys) (cd .obeys)
             (λ j lt fr. h .all .values .full e ce me j (omega arith) lt fr ∙ sym (h .all .values .full d cd md j (omega arith) lt fr));
-        none = λ k q b e ce me. contrary b (h .each k (found k q .0) (found k q .0 .high) (found k q .1) .values .divides e ce me);
       }

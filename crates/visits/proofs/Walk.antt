@@ -4,14 +4,14 @@ use Prim.Native.Nat.{ℕ, zero, suc, _+_, _*_, _≤_, _<_}
 use native.Mathlib.Omega.{arith}
 use native.Mathlib.Decide.{decLt, ℕ-discrete}
 use lib.Dec.{eqb}
-use lib.ListN.{length, getD, set, length-set}
+use lib.ListN.{length, getD, set}
 use lib.Seq.{getD-set-same, getD-set-other}
 use Rattle.netlist.specs.Record.{gateAt, Room}
 use Rattle.loops.specs.Loop.{pick}
-use Rattle.visits.specs.Flow.{Core, Low, Recipe, owned, enter, mark, visitTo}
+use Rattle.visits.specs.Flow.{Low, Recipe, owned, enter, mark, visitTo}
 use Rattle.visits.specs.Claims.{Same, Seen, Is, Shape, Frame, OwnLaw, Operands, Reached, by-first, by-second, by-third, left}
 use Rattle.visits.proofs.Marks.{pick-eq, positive, left-marked}
-use Rattle.visits.proofs.Later.{Later, Sound, later-then, later-most, grows, fresh, seen-same, frame-same, later-own, Keeps, Steps, steps, visit-later}
+use Rattle.visits.proofs.Later.{Later, Sound, mark-sound, later-then, later-most, grows, fresh, seen-same, frame-same, later-own, Keeps, Steps, steps, visit-later}
 
 -- what was there is there
 pub record Kept (s t : Low) : Type 0 where
@@ -38,7 +38,7 @@ mark-grown k s lt x h = go (ℕ-discrete x k)
     go (yes p) = ap (λ (y : ℕ). getD (set (s .seen) k 1) y 0) p ∙ getD-set-same (s .seen) k 1 0 lt
     go (no p) = getD-set-other (s .seen) k x 1 0 p ∙ h
 
-pub mark-seen : (k : ℕ) (s : Low) → k < length (s .seen) → Seen (mark k s) k
+mark-seen : (k : ℕ) (s : Low) → k < length (s .seen) → Seen (mark k s) k
 unfolding mark
 mark-seen k s lt = getD-set-same (s .seen) k 1 0 lt
 
@@ -70,7 +70,6 @@ fit-mark {R} {e} {f} {s} k lt un h =
 -- where a node makes its own gates
 pub record Can (R : Recipe) (k : ℕ) (s : Low) : Type 0 where
   pub is : Is R k
-  pub run : s .core .stop ≡ 0
   pub mapped : length (s .core .map) ≡ R .total
   pub room : Room (s .core .net .gates) (s .core .net .n + R .gates k)
   pub roomAsks : 2 * (s .core .nc + R .asks k) ≤ length (s .core .cons)
@@ -88,7 +87,7 @@ Reaches R k s t = (u : Low) → Stays R k t u → ((k ≡ 0 → ⊥) → Reached
 pub record Invariant (R : Recipe) (G : Low → Type 0) (P : Low → ℕ → Type 0) : Type 0 where
   pub keep : (j : ℕ) (s t : Low) → Is R j → Seen s j → Kept s t → Stays R j s t → P s j → P t j
   pub marks : (k : ℕ) (s : Low) → Kept s (mark k s) → G s → G (mark k s)
-  pub owns : (k : ℕ) (s : Low) → Can R k s → G s → Operands R (s .core .map) k (Seen s) → Operands R (s .core .map) k (P s) → R .own k (s .core) .stop ≡ 0
+  pub owns : (k : ℕ) (s : Low) → Can R k s → G s → Operands R (s .core .map) k (Seen s) → Operands R (s .core .map) k (P s)
       → G (owned R k s) × P (owned R k s) k
 
 -- every node below b that is seen is finished
@@ -104,15 +103,7 @@ module _ {R : Recipe} (sh : Shape R) (law : OwnLaw R) {G : Low → Type 0} {P : 
 
   -- what a visit of a node below f gives
   abbrev Good : ℕ → (ℕ → Low → Low) → Type 0
-  Good f go = (b k e r : ℕ) (s : Low) → k < f → k < b → b ≤ R .size → Sound R s → Fit R e r s → Holds R G P b s → go k s .core .stop ≡ 0 → Visited b k s (go k s)
-
-  -- a step that does not end in a stop did not begin in one
-  pub own-run : (k : ℕ) (c : Core) → R .own k c .stop ≡ 0 → c .stop ≡ 0
-  own-run k c z = go (ℕ-discrete (c .stop) 0)
-    where
-      go : Dec (c .stop ≡ 0) → c .stop ≡ 0
-      go (yes h) = h
-      go (no h) = sym (ap (λ (x : Core). x .stop) (law .idle k c h)) ∙ z
+  Good f go = (b k e r : ℕ) (s : Low) → k < f → k < b → b ≤ R .size → Sound R s → Fit R e r s → Holds R G P b s → Visited b k s (go k s)
 
   mark-holds : (b k : ℕ) (s : Low) → k < b → k < length (s .seen) → Holds R G P b s → Holds R G P k (mark k s)
   unfolding mark
@@ -135,10 +126,6 @@ module _ {R : Recipe} (sh : Shape R) (law : OwnLaw R) {G : Low → Type 0} {P : 
       (is : Is R k) (d : Sound R s) (fit : Fit R e r s) (h : Holds R G P b s) (un : Seen s k → ⊥) where
     in-seen : k < length (s .seen)
     in-seen = omega (arith, d .nodes, is .high)
-
-    mark-ok : Sound R (mark k s)
-    unfolding mark
-    mark-ok = record { mapped = d .mapped; nodes = length-set (s .seen) k 1 ∙ d .nodes }
 
     -- what is seen since the node was marked is reached from it
     abbrev Fresh : Low → Type 0
@@ -178,10 +165,8 @@ module _ {R : Recipe} (sh : Shape R) (law : OwnLaw R) {G : Low → Type 0} {P : 
 
     -- after the visits of the operands
     operands-done : (s1 s2 s3 : Low) → s1 ≡ go (R .first k) (mark k s) → s2 ≡ go (R .second (s1 .core .map) k) s1 → s3 ≡ go (R .third (s2 .core .map) k) s2
-        → Steps sh law go k (mark k s) s1 s2 s3 → s3 .core .stop ≡ 0 → Holds R G P k s3 × Operands R (s3 .core .map) k (P s3) × Can R k s3 × Operands R (s3 .core .map) k (Seen s3) × Fresh s3
-    operands-done s1 s2 s3 e1 e2 e3 st z3 =
-        let z2 : s2 .core .stop ≡ 0 = st .l3 .stop z3 in
-        let z1 : s1 .core .stop ≡ 0 = st .l2 .stop z2 in
+        → Steps sh law go k (mark k s) s1 s2 s3 → Holds R G P k s3 × Operands R (s3 .core .map) k (P s3) × Can R k s3 × Operands R (s3 .core .map) k (Seen s3) × Fresh s3
+    operands-done s1 s2 s3 e1 e2 e3 st =
         let f0 : Fit R (e + R .gates k) (r + R .asks k) (mark k s) = fit-mark k in-seen un fit in
         let f1 : Fit R (e + R .gates k) (r + R .asks k) s1 = fit-later f0 (st .l1) in
         let f2 : Fit R (e + R .gates k) (r + R .asks k) s2 = fit-later f1 (st .l2) in
@@ -194,11 +179,11 @@ module _ {R : Recipe} (sh : Shape R) (law : OwnLaw R) {G : Low → Type 0} {P : 
         let lc : xc < k = sh .third (s2 .core .map) k is in
         let v1 : Visited k xa (mark k s) s1 =
         subst (λ (x : Low). Visited k xa (mark k s) x) (sym e1)
-        (good k xa _ _ (mark k s) (omega arith) la (omega arith) mark-ok f0 (mark-holds b k s lb in-seen h) (subst (λ (x : Low). x .core .stop ≡ 0) e1 z1)) in
+        (good k xa _ _ (mark k s) (omega arith) la (omega arith) (mark-sound k s d) f0 (mark-holds b k s lb in-seen h)) in
         let v2 : Visited k xb s1 s2 =
-        subst (λ (x : Low). Visited k xb s1 x) (sym e2) (good k xb _ _ s1 (omega arith) lb2 (omega arith) (st .d1) f1 (v1 .holds) (subst (λ (x : Low). x .core .stop ≡ 0) e2 z2)) in
+        subst (λ (x : Low). Visited k xb s1 x) (sym e2) (good k xb _ _ s1 (omega arith) lb2 (omega arith) (st .d1) f1 (v1 .holds)) in
         let v3 : Visited k xc s2 s3 =
-        subst (λ (x : Low). Visited k xc s2 x) (sym e3) (good k xc _ _ s2 (omega arith) lc (omega arith) (st .d2) f2 (v2 .holds) (subst (λ (x : Low). x .core .stop ≡ 0) e3 z3)) in
+        subst (λ (x : Low). Visited k xc s2 x) (sym e3) (good k xc _ _ s2 (omega arith) lc (omega arith) (st .d2) f2 (v2 .holds)) in
         let l13 : Later R k 0 0 s1 s3 = later-then (later-most (omega arith) (st .l2)) (later-most (omega arith) (st .l3)) in
         let sb : R .second (s3 .core .map) k ≡ xb = sh .second-same (s1 .core .map) (s3 .core .map) k is (first-same k s1 s3 is l13 (v1 .seen)) in
         let sc : R .third (s3 .core .map) k ≡ xc = sh .third-same (s2 .core .map) (s3 .core .map) k is (first-same k s2 s3 is (st .l3) (λ q. grows (st .l2) xa (v1 .seen q))) in
@@ -212,7 +197,6 @@ module _ {R : Recipe} (sh : Shape R) (law : OwnLaw R) {G : Low → Type 0} {P : 
           },
           record {
             is = is;
-            run = z3;
             mapped = st .d3 .mapped;
             room = omega (arith, f3 .room);
             roomAsks = omega (arith, f3 .roomAsks);
@@ -227,12 +211,12 @@ module _ {R : Recipe} (sh : Shape R) (law : OwnLaw R) {G : Low → Type 0} {P : 
         )
 
     -- after the node's own gates
-    own-done : (s3 : Low) → Later R k 0 0 (mark k s) s3 → Holds R G P k s3 × Operands R (s3 .core .map) k (P s3) × Can R k s3 × Operands R (s3 .core .map) k (Seen s3) × Fresh s3 → owned R k s3 .core .stop ≡ 0
+    own-done : (s3 : Low) → Later R k 0 0 (mark k s) s3 → Holds R G P k s3 × Operands R (s3 .core .map) k (P s3) × Can R k s3 × Operands R (s3 .core .map) k (Seen s3) × Fresh s3
         → Visited b k s (owned R k s3)
     unfolding owned
-    own-done s3 l c z =
-        let gp : G (owned R k s3) × P (owned R k s3) k = inv .owns k s3 (c .2) (c .0 .all) (c .3) (c .1) z in
-        let fr : Frame R k (s3 .core) (R .own k (s3 .core)) = law .step k (s3 .core) is (c .2 .mapped) (c .2 .run) .frame in
+    own-done s3 l c =
+        let gp : G (owned R k s3) × P (owned R k s3) k = inv .owns k s3 (c .2) (c .0 .all) (c .3) (c .1) in
+        let fr : Frame R k (s3 .core) (R .own k (s3 .core)) = law k (s3 .core) is (c .2 .mapped) .frame in
         let whole : Later R k 0 0 s (owned R k s3) = later-own sh law k s s3 is d un l in
         record { holds = record { all = gp .0; each = λ j ij lj sj. at gp fr whole j ij lj sj (ℕ-discrete j k) (decLt j k) }; seen = λ _. c .2 .seen; reaches = λ u st rk x sx nx. from fr u st (rk (omega (arith, is .low))) x sx nx (ℕ-discrete x k) }
       where
@@ -250,15 +234,15 @@ module _ {R : Recipe} (sh : Shape R) (law : OwnLaw R) {G : Low → Type 0} {P : 
             let m : getD (s3 .seen) j 0 ≡ getD (s .seen) j 0 = fresh whole j (omega arith) in
             inv .keep j s (owned R k s3) ij (sym m ∙ sj) (kept-later whole) (λ x hx lx sx. whole .same x hx (seen-same whole x sx)) (h .each j ij lj (sym m ∙ sj))
 
-    enter-holds : enter go R k (mark k s) .core .stop ≡ 0 → Visited b k s (enter go R k (mark k s))
+    enter-holds : Visited b k s (enter go R k (mark k s))
     unfolding enter owned
-    enter-holds z =
+    enter-holds =
         let s0 : Low = mark k s in
         let s1 : Low = go (R .first k) s0 in
         let s2 : Low = go (R .second (s1 .core .map) k) s1 in
         let s3 : Low = go (R .third (s2 .core .map) k) s2 in
-        let st : Steps sh law go k s0 s1 s2 s3 = steps sh law go keeps k s0 mark-ok is in
-        own-done s3 (st .all) (operands-done s1 s2 s3 refl refl refl st (own-run k (s3 .core) z)) z
+        let st : Steps sh law go k s0 s1 s2 s3 = steps sh law go keeps k s0 (mark-sound k s d) is in
+        own-done s3 (st .all) (operands-done s1 s2 s3 refl refl refl st)
 
   visit-nothing : (b k : ℕ) (s : Low) → Holds R G P b s → ((k ≡ 0 → ⊥) → Seen s k) → Visited b k s s
   visit-nothing b k s h z = record { holds = h; seen = z; reaches = λ u st rk x sx nx. absurd (nx sx) }
@@ -268,12 +252,8 @@ module _ {R : Recipe} (sh : Shape R) (law : OwnLaw R) {G : Low → Type 0} {P : 
   visit-holds zero b k e r s lf lb bs d fit h = absurd (omega arith)
   visit-holds (suc f) b k e r s lf lb bs d fit h = go (visit-holds f)
     where
-      go : Good f (visitTo f R)
-          → pick (eqb (s .core .stop) 0) (pick (eqb k 0) s (pick (eqb (getD (s .seen) k 0) 1) s (enter (visitTo f R) R k (mark k s)))) s .core .stop ≡ 0
-          → Visited b k s (pick (eqb (s .core .stop) 0) (pick (eqb k 0) s (pick (eqb (getD (s .seen) k 0) 1) s (enter (visitTo f R) R k (mark k s)))) s)
+      go : Good f (visitTo f R) → Visited b k s (pick (eqb k 0) s (pick (eqb (getD (s .seen) k 0) 1) s (enter (visitTo f R) R k (mark k s))))
       go good =
-          pick-eq (λ (x : Low). x .core .stop ≡ 0 → Visited b k s x) (s .core .stop) 0
-          (λ _. pick-eq (λ (x : Low). x .core .stop ≡ 0 → Visited b k s x) k 0 (λ q _. visit-nothing b k s h (λ nz. absurd (nz q)))
-          (λ nz. pick-eq (λ (x : Low). x .core .stop ≡ 0 → Visited b k s x) (getD (s .seen) k 0) 1 (λ q _. visit-nothing b k s h (λ _. q))
-          (λ un. enter-holds f (visitTo f R) (visit-later sh law f) good b k e r s (omega arith) lb bs (record { low = positive k nz; high = omega arith }) d fit h un)))
-          (λ ne z. absurd (ne z))
+          pick-eq (Visited b k s) k 0 (λ q. visit-nothing b k s h (λ nz. absurd (nz q)))
+          (λ nz. pick-eq (Visited b k s) (getD (s .seen) k 0) 1 (λ q. visit-nothing b k s h (λ _. q))
+          (λ un. enter-holds f (visitTo f R) (visit-later sh law f) good b k e r s (omega arith) lb bs (record { low = positive k nz; high = omega arith }) d fit h un))

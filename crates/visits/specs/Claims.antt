@@ -34,12 +34,11 @@ pub record Is (R : Recipe) (k : ℕ) : Type 0 where
   pub high : k < R .size
 
 -- what the table means under one choice of the given words: digit j of the value of the node k (of a memory, of its words one after the
--- other), digit j of the quotient and of the remainder of the division k, and whether k is a division by zero
+-- other), and digit j of the quotient and of the remainder of the division k
 pub record Meaning : Type 0 where
   pub value : ℕ → ℕ → Bool
   pub quotient : ℕ → ℕ → Bool
   pub remainder : ℕ → ℕ → Bool
-  pub byZero : ℕ → Bool
 
 -- the bits of the node k say its value
 abbrev pub Right : Recipe → Meaning → Assign → List ℕ → ℕ → Type 0
@@ -89,7 +88,6 @@ pub record Shape (R : Recipe) : Type 0 where
   pub third : (m : List ℕ) (k : ℕ) → Is R k → R .third m k < k
   pub second-same : (m t : List ℕ) (k : ℕ) → Is R k → Same R m t (R .first k) → R .second t k ≡ R .second m k
   pub third-same : (m t : List ℕ) (k : ℕ) → Is R k → Same R m t (R .first k) → R .third t k ≡ R .third m k
-  pub blocked-same : (m t : List ℕ) (k : ℕ) → Is R k → Same R m t (R .second m k) → R .blocked t k ≡ R .blocked m k
   pub inside : (k : ℕ) → Is R k → R .off k + R .bits k ≤ R .total
   pub apart : (x y : ℕ) → x < y → y < R .size → R .off x + R .bits x ≤ R .off y
 
@@ -110,48 +108,41 @@ pub record Frame (R : Recipe) (k : ℕ) (s t : Core) : Type 0 where
 -- where a step is made: room for its ceilings, a formed net, and its operands' bits are in it
 pub record Ready (R : Recipe) (k : ℕ) (s : Core) : Type 0 where
   pub is : Is R k
-  pub run : s .stop ≡ 0
   pub mapped : length (s .map) ≡ R .total
   pub room : Room (s .net .gates) (s .net .n + R .gates k)
   pub roomAsks : 2 * (s .nc + R .asks k) ≤ length (s .cons)
   pub formed : Formed (s .net)
   pub below : Operands R (s .map) k (Under R (s .net .n) (s .map))
 
--- the laws that do not speak of values (demand 3): `frame`, `stops` and `runs` at any state
+-- the laws that do not speak of values (demand 3): `frame` at any state
 pub record Step (R : Recipe) (k : ℕ) (s t : Core) : Type 0 where
   pub frame : Frame R k s t
-  pub stops : (t .stop ≡ 0 → ⊥) → (t .stop ≡ k) × (R .blocked (s .map) k ≡ true)
-  pub runs : t .stop ≡ 0 → R .blocked (s .map) k ≡ false
-  pub formed : Ready R k s → t .stop ≡ 0 → Formed (t .net) × Under R (t .net .n) (t .map) k
-  pub known : Ready R k s → t .stop ≡ 0 → R .given k ≡ false → Operands R (s .map) k (Under R 2 (s .map))
-      → (t .net .n ≡ s .net .n) × (t .nc ≡ s .nc) × Under R 2 (t .map) k
-  pub asked : Ready R k s → t .stop ≡ 0 → (i : ℕ) → s .nc ≤ i → i < t .nc → Asked t i
+  pub formed : Ready R k s → Formed (t .net) × Under R (t .net .n) (t .map) k
+  pub known : Ready R k s → R .given k ≡ false → Operands R (s .map) k (Under R 2 (s .map)) → (t .net .n ≡ s .net .n) × (t .nc ≡ s .nc) × Under R 2 (t .map) k
+  pub asked : Ready R k s → (i : ℕ) → s .nc ≤ i → i < t .nc → Asked t i
 
-pub record OwnLaw (R : Recipe) : Type 0 where
-  pub idle : (k : ℕ) (s : Core) → (s .stop ≡ 0 → ⊥) → R .own k s ≡ s
-  pub step : (k : ℕ) (s : Core) → Is R k → length (s .map) ≡ R .total → s .stop ≡ 0 → Step R k s (R .own k s)
+abbrev pub OwnLaw : Recipe → Type 0
+OwnLaw R = (k : ℕ) (s : Core) → Is R k → length (s .map) ≡ R .total → Step R k s (R .own k s)
 
 -- what a step makes true of an assignment that meets its constraints
 pub record Fine (R : Recipe) (M : Meaning) (k : ℕ) (s t : Core) (e : Assign) : Type 0 where
-  pub divides : M .byZero k ≡ false
   pub frees : Frees M (t .net) (s .net .n) e
   pub right : Right R M e (t .map) k
 
 -- the law of values (demand 2): under a considered assignment at which the operands' bits are right, the new constraints are met exactly if the
--- divisor is not zero and the new free gates have their right values; and then the node's bits are right
+-- new free gates have their right values; and then the node's bits are right
 pub record StepRight (R : Recipe) (M : Meaning) (k : ℕ) (s t : Core) : Type 0 where
   pub sound : (e : Assign) → Considered M (t .net) e → Operands R (s .map) k (Right R M e (s .map)) → Met t (s .nc) e → Fine R M k s t e
-  pub complete : (e : Assign) → Considered M (t .net) e → Operands R (s .map) k (Right R M e (s .map)) → M .byZero k ≡ false → Frees M (t .net) (s .net .n) e → Met t (s .nc) e
+  pub complete : (e : Assign) → Considered M (t .net) e → Operands R (s .map) k (Right R M e (s .map)) → Frees M (t .net) (s .net .n) e → Met t (s .nc) e
 
 -- what is enough of a step that records no constraint and makes no free gate but InputBits
 pub record Plain (R : Recipe) (M : Meaning) (k : ℕ) (s t : Core) : Type 0 where
   pub asks : t .nc ≡ s .nc
   pub only : Room (t .net .gates) (t .net .n) → (g : ℕ) → s .net .n ≤ g → g < t .net .n → free (gateAt (t .net .gates) g .kind) ≡ true → gateAt (t .net .gates) g .kind ≡ 2
-  pub divides : (e : Assign) → Considered M (t .net) e → Operands R (s .map) k (Right R M e (s .map)) → M .byZero k ≡ false
   pub right : (e : Assign) → Considered M (t .net) e → Operands R (s .map) k (Right R M e (s .map)) → Right R M e (t .map) k
 
 abbrev pub OwnRight : Recipe → Meaning → Type 0
-OwnRight R M = (k : ℕ) (s : Core) → Ready R k s → R .own k s .stop ≡ 0 → StepRight R M k s (R .own k s)
+OwnRight R M = (k : ℕ) (s : Core) → Ready R k s → StepRight R M k s (R .own k s)
 
 -- ---- sums of ceilings
 
@@ -172,7 +163,6 @@ sumFrom c i (suc n) = c i + sumFrom c (suc i) n
 
 -- where a lowering begins: two constants, no constraint, nothing seen, room for the sums
 pub record Start (R : Recipe) (s : Low) : Type 0 where
-  pub run : s .core .stop ≡ 0
   pub mapped : length (s .core .map) ≡ R .total
   pub nodes : length (s .seen) ≡ R .size
   pub none : (k : ℕ) → getD (s .seen) k 0 ≡ 0
@@ -182,12 +172,12 @@ pub record Start (R : Recipe) (s : Low) : Type 0 where
   pub room : Room (s .core .net .gates) (2 + sumFrom (R .gates) 0 (R .size))
   pub roomAsks : 2 * sumFrom (R .asks) 0 (R .size) ≤ length (s .core .cons)
 
--- demand 2 under one choice of the given words, of a lowering that ended in t
+-- demand 2 under one choice of the given words, of a lowering that ended in t: exactly one assignment meets the constraints, and under it all
+-- reached bits are right
 pub record Lowered (R : Recipe) (M : Meaning) (t : Low) : Type 0 where
   pub right : (e : Assign) → Considered M (t .core .net) e → Met (t .core) 0 e → (k : ℕ) → Reached R (t .core .map) k → Right R M e (t .core .map) k
-  pub exists : ((k : ℕ) → Reached R (t .core .map) k → M .byZero k ≡ false) → (e : Assign) × Considered M (t .core .net) e × Met (t .core) 0 e
+  pub exists : (e : Assign) × Considered M (t .core .net) e × Met (t .core) 0 e
   pub one : (e d : Assign) → Considered M (t .core .net) e → Met (t .core) 0 e → Considered M (t .core .net) d → Met (t .core) 0 d → (g : ℕ) → g < t .core .net .n → e g ≡ d g
-  pub none : (k : ℕ) → Reached R (t .core .map) k → M .byZero k ≡ true → (e : Assign) → Considered M (t .core .net) e → Met (t .core) 0 e → ⊥
 
 -- demand 3 of a lowering from s to t
 pub record Small (R : Recipe) (s t : Low) : Type 0 where
@@ -200,13 +190,6 @@ pub record Small (R : Recipe) (s t : Low) : Type 0 where
   pub bad : (k : ℕ) → Is R k → R .bad k ≡ true → Seen t k
   pub closed : (k : ℕ) → Is R k → Seen t k → Operands R (t .core .map) k (Seen t)
   pub reached : (k : ℕ) → Is R k → Seen t k ↔ Reached R (t .core .map) k
-  pub runs : (k : ℕ) → Is R k → Seen t k → R .blocked (t .core .map) k ≡ false
   pub gatesRest : (i : ℕ) → used (t .core .net .n) ≤ i → getD (t .core .net .gates) i 0 ≡ getD (s .core .net .gates) i 0
   pub consRest : (i : ℕ) → 2 * t .core .nc ≤ i → getD (t .core .cons) i 0 ≡ getD (s .core .cons) i 0
   pub unseen : (k : ℕ) → Is R k → (Seen t k → ⊥) → Same R (s .core .map) (t .core .map) k
-
--- where the lowering stopped: at a node that is reached and divides by what is known to be zero
-pub record Halted (R : Recipe) (t : Low) : Type 0 where
-  pub is : Is R (t .core .stop)
-  pub seen : Seen t (t .core .stop)
-  pub blocked : R .blocked (t .core .map) (t .core .stop) ≡ true

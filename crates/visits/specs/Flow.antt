@@ -7,21 +7,20 @@ use lib.ListN.{getD, set}
 use Rattle.netlist.specs.Net.{Net}
 use Rattle.loops.specs.Loop.{pick, iter}
 
--- gates, constraints (two numbers each, nc of them), the bit map, and 0 or the node at which the lowering stopped
+-- gates, constraints (two numbers each, nc of them), and the bit map
 pub record Core : Type 0 where
   pub net : Net
   pub cons : List ℕ
   pub nc : ℕ
   pub map : List ℕ
-  pub stop : ℕ
 
 pub record Low : Type 0 where
   pub core : Core
   pub seen : List ℕ
 
 -- what the lowering takes of a table: nodes are 1 .. size - 1, `total` places in the map, each node's number of bits and first place, its
--- ceilings, its operands (0 is none; the second and the third may depend on the first one's bits), its own step, and three tests: an input or
--- an uninitialised state, a bad node, a division whose divisor is known to be zero in the map
+-- ceilings, its operands (0 is none; the second and the third may depend on the first one's bits), its own step, and two tests: an input or
+-- an uninitialised state, a bad node
 pub record Recipe : Type 0 where
   pub size : ℕ
   pub total : ℕ
@@ -35,7 +34,6 @@ pub record Recipe : Type 0 where
   pub own : ℕ → Core → Core
   pub given : ℕ → Bool
   pub bad : ℕ → Bool
-  pub blocked : List ℕ → ℕ → Bool
 
 unfoldable pub owned : Recipe → ℕ → Low → Low
 owned R k s = record { core = R .own k (s .core); seen = s .seen }
@@ -55,7 +53,7 @@ mark k s = record { core = s .core; seen = set (s .seen) k 1 }
 unfoldable pub visitTo : ℕ → Recipe → ℕ → Low → Low
 visitTo zero R k s = s
 visitTo (suc f) R k s =
-    pick (eqb (s .core .stop) 0) (pick (eqb k 0) s (pick (eqb (getD (s .seen) k 0) 1) s (enter (visitTo f R) R k (mark k s)))) s
+    pick (eqb k 0) s (pick (eqb (getD (s .seen) k 0) 1) s (enter (visitTo f R) R k (mark k s)))
 
 -- all bad nodes, in table order
 unfoldable pub rootStep : Recipe → ℕ → Low → Low

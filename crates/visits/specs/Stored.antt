@@ -12,7 +12,7 @@ use Rattle.visits.specs.Claims.{Under, Operands, Ready}
 
 -- the word `out` of w bits, made with the net grown to `net`, in the map at a place (it takes no recipe: a recipe's own step is made of it)
 unfoldable pub stored : ℕ → ℕ → Core → Net → List ℕ → Core
-stored place w s net out = record { net = net; cons = s .cons; nc = s .nc; map = putBits place out w (s .map); stop = s .stop }
+stored place w s net out = record { net = net; cons = s .cons; nc = s .nc; map = putBits place out w (s .map) }
 
 pub record WordLaw (R : Recipe) (k : ℕ) (s : Core) (net : Net) (out : List ℕ) : Type 0 where
   pub grows : Grows (s .net) net (R .gates k)

@@ -1,25 +1,30 @@
 -- The law of equality, over the width.
-use mathlib.Core.Path.{_≡_, _∙_}
+use mathlib.Core.Path.{_≡_, refl, sym, _∙_}
 use mathlib.Core.List.{List}
 use mathlib.Core.Bool.{Bool, true, false, not, _&&_}
 use Prim.Native.Nat.{ℕ, zero, suc, _+_, _*_, _-_, _^_, _≤_, _<_}
 use native.Mathlib.Omega.{arith}
-use native.Mathlib.Decide.{ℕ-discrete}
+use native.Mathlib.Decide.{decLt, ℕ-discrete}
+use native.Mathlib.Numerals.{add-one}
 use lib.Dec.{eqb}
-use lib.ListN.{getD}
+use lib.ListN.{length, getD, length-set}
+use lib.Seq.{getD-set-same, getD-set-other}
 use borrow.Author.Tests.{eq-eqb, ne-eqb}
-use Rattle.loops.specs.Loop.{bit}
+use Rattle.loops.specs.Loop.{bit, iter}
+use Rattle.loops.proofs.Loop.{iter-inv}
 use Rattle.netlist.specs.Kind.{xor}
 use Rattle.netlist.specs.Net.{Net, Assign}
-use Rattle.gates.specs.Fold.{xnorCost}
+use Rattle.gates.specs.Made.{MadeBit, kept}
+use Rattle.gates.specs.Fold.{xnorBit, xnorCost}
 use Rattle.gates.specs.Law.{Formed, BitLaw}
 use Rattle.gates.proofs.Laws.{ext-trans, keeps, room-back}
-use Rattle.gates.proofs.FoldLaws.{and-law, xnor-cost, xnor-known, xnor-known-right}
+use Rattle.gates.proofs.FoldLaws.{and-law, xnor-law, xnor-cost, xnor-known, xnor-known-right}
+use Rattle.gates.proofs.TrueLaws.{xnor-same, and-same}
 use Rattle.digits.specs.Digits.{Below, number}
 use Rattle.words.specs.declared.each.Bitwise.the-variants.{And, Xnor}
 use Rattle.words.specs.Num.{num, blank}
-use Rattle.words.specs.Each.{bitwise, bitCost, bitValue, bitBelow, Word, eachBit, eachCost, EachLaw}
-use Rattle.words.specs.Join.{joinAll}
+use Rattle.words.specs.Each.{bitwise, bitCost, bitValue, bitBelow, Word, eachStep, eachBit, eachCost, EachLaw}
+use Rattle.words.specs.Join.{joinStep, joinAll}
 use Rattle.words.specs.Eq.{eqCost, eqWords, EqLaw}
 use Rattle.words.proofs.Sums.{sum-most}
 use Rattle.words.proofs.NumLaws.{num-lt, blank-long}
@@ -79,6 +84,58 @@ module _ (w : ℕ) (left right : List ℕ) (s : Net) (big : 1 ≤ w) (small : w 
             let q : (joinAll And w (x .out) (x .net) .net ≡ x .net) × (joinAll And w (x .out) (x .net) .bit < 2) = al .known (λ i l. xl .knownAt i l (b .0 i l, b .1 i l)) in
             (q .0 ∙ xl .known (λ i l. (b .0 i l, b .1 i l)), q .1);
       }
+
+-- an And of all bits that is known true: they all are, and no gate was made
+module _ (bits : List ℕ) (s : Net) (two : 2 ≤ s .n) where
+  AllTrue : ℕ → MadeBit → Type 0
+  AllTrue i m = (2 ≤ m .net .n) × (m .bit ≡ 1 → (m .net ≡ s) × ((j : ℕ) → j < suc i → getD bits j 0 ≡ 1))
+
+  and-next : (i : ℕ) (m : MadeBit) → AllTrue i m → AllTrue (suc i) (joinStep And bits i m)
+  unfolding AllTrue joinStep bitwise
+  and-next i m h =
+      rw (add-one i) (
+        omega (arith, and-law (m .net) (m .bit) (getD bits (suc i) 0) .ext .grows .from, h .0),
+        λ e. let a = and-same (m .net) (h .0) (m .bit) (getD bits (suc i) 0) e in let k = h .1 (a .1) in (a .0 ∙ k .0, λ j l. at (k .1) (a .2) j l (decLt j (suc i))),
+      )
+    where
+      at : ((j : ℕ) → j < suc i → getD bits j 0 ≡ 1) → getD bits (suc i) 0 ≡ 1 → (j : ℕ) → j < suc (suc i) → Dec (j < suc i) → getD bits j 0 ≡ 1
+      at k q j l (yes p) = k j p
+      at k q j l (no p) = let r : j ≡ suc i = omega arith in rw r q
+
+  all-true : (i : ℕ) → AllTrue i (iter i (joinStep And bits) (kept s (getD bits 0 0)))
+  unfolding AllTrue
+  all-true i =
+      iter-inv AllTrue (joinStep And bits) (kept s (getD bits 0 0)) i (two, λ e. (refl, λ j l. let q : j ≡ 0 = omega arith in rw q e)) (λ i m l h. and-next i m h)
+
+-- an equality that is known true made no gate
+module _ (left right : List ℕ) (s : Net) where
+  record Trues (i : ℕ) (x : Word) : Type 0 where
+    two : 2 ≤ x .net .n
+    long : length (x .out) ≡ 65
+    same : ((j : ℕ) → j < i → getD (x .out) j 0 ≡ 1) → x .net ≡ s
+
+  xnor-next : (i : ℕ) (x : Word) → i < 65 → Trues i x → Trues (suc i) (eachStep Xnor left right i x)
+  unfolding eachStep bitwise
+  xnor-next i x l h =
+      record {
+        two = omega (arith, h .two, xnor-law (x .net) (getD left i 0) (getD right i 0) .ext .grows .from);
+        long = length-set (x .out) i (m .bit) ∙ h .long;
+        same = λ k.
+            xnor-same (x .net) (h .two) (getD left i 0) (getD right i 0) (sym (getD-set-same (x .out) i (m .bit) 0 (omega (arith, h .long))) ∙ k i (omega arith))
+            ∙ h .same (λ j lt. sym (getD-set-other (x .out) i j (m .bit) 0 (omega arith)) ∙ k j (omega arith));
+      }
+    where
+      m : MadeBit
+      m = xnorBit (x .net) (getD left i 0) (getD right i 0)
+
+  pub eq-same : (w : ℕ) → 1 ≤ w → w ≤ 65 → 2 ≤ s .n → eqWords w left right s .bit ≡ 1 → eqWords w left right s .net ≡ s
+  unfolding eqWords AllTrue
+  eq-same w big small two e =
+      let x : Word = eachBit Xnor left right w (record { net = s; out = blank }) in
+      let o : Trues w x =
+      iter-inv Trues (eachStep Xnor left right) (record { net = s; out = blank }) w (record { two = two; long = blank-long; same = λ h. refl }) (λ i y l h. xnor-next i y (omega arith) h) in
+      let a = all-true (x .out) (x .net) (o .two) (w - 1) .1 e in
+      a .0 ∙ o .same (λ j l. a .1 j (omega arith))
 
 -- three gates a place less one; two where a side is wholly known
 pub eq-three : (left right : List ℕ) (w : ℕ) → 1 ≤ w → eqCost left right w ≤ 3 * w - 1

@@ -32,9 +32,6 @@ guesses-requires c κs = search needs
 add-solutions : tie.Need-add-solutions
 add-solutions c = search needs
 
-cast-if1 : tie.Need-cast-if1
-cast-if1 c = search needs
-
 add-differ : tie.Need-add-differ
 add-differ c = let p = c .before .before .before .before .before .before .before .before .before .before .before .before .before .before .before .before .before .before .before .before .before .before .before .pre .1 in omega arith
 
@@ -61,7 +58,6 @@ input-step-spec =
     inputs-requires
     guesses-requires
     add-solutions
-    cast-if1
     add-differ
     same-length
     returns

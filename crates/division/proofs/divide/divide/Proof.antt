@@ -1,12 +1,12 @@
 use native.Mathlib.Omega.{arith}
-use Rattle.division.proofs.Paths.{known-both, divide-known, divide-free}
+use Rattle.division.proofs.Paths.{known-both, divide-known, divide-other}
 use borrow.Author.Needs.{needs}
 use Rattle.division.proofs.divide.divide.Statement.{statement}
 use Rattle.division.proofs.divide.divide.Tie as tie
 use Rattle.division.proofs.divide.divide.Reads as reads
 use Rattle.division.proofs.divide.divide.Lts as lts
 use Rattle.digits.proofs.all_known.Reads as all-known-reads
-use Rattle.division.proofs.divide.divide_free.Reads as divide-free-reads
+use Rattle.division.proofs.divide.by_zero.Reads as by-zero-reads
 use Rattle.division.proofs.known.divide_known.Reads as divide-known-reads
 
 all-known-requires : tie.Need-all-known-requires
@@ -24,8 +24,8 @@ same-length c = search needs
 returns : tie.Need-returns
 returns c = search (needs, divide-known)
 
-divide-free-requires : tie.Need-divide-free-requires
-divide-free-requires c κs = search needs
+by-zero-requires : tie.Need-by-zero-requires
+by-zero-requires c κs = search needs
 
 same-length-2 : tie.Need-same-length-2
 same-length-2 c = search needs
@@ -37,7 +37,7 @@ same-length-4 : tie.Need-same-length-4
 same-length-4 c = search needs
 
 returns-2 : tie.Need-returns-2
-returns-2 c = search (needs, divide-free)
+returns-2 c = search (needs, divide-other)
 
 pub divide-spec : {M : Type 1} → statement M
 divide-spec =
@@ -48,7 +48,7 @@ divide-spec =
     divide-known-requires
     same-length
     returns
-    divide-free-requires
+    by-zero-requires
     same-length-2
     same-length-3
     same-length-4

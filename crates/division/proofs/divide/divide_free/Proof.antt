@@ -1,43 +1,45 @@
 use Rattle.words.specs.Num.{filled}
 use native.Mathlib.Omega.{arith}
-use Rattle.division.proofs.Paths.{pair-most, free-path}
+use mathlib.Core.Path.{refl}
+use Rattle.division.proofs.Paths.{raise-most, words-most, free-path}
 use borrow.Author.Needs.{needs}
 use Rattle.division.proofs.divide.divide_free.Statement.{statement}
 use Rattle.division.proofs.divide.divide_free.Tie as tie
 use Rattle.division.proofs.divide.divide_free.Reads as reads
 use Rattle.division.proofs.divide.divide_free.Lts as lts
-use Rattle.division.proofs.check.check_words.Reads as check-words-reads
-use Rattle.division.proofs.divide.put_asked.Reads as put-asked-reads
-use Rattle.division.proofs.pair.pair_words.Reads as pair-words-reads
+use Rattle.division.proofs.divide.div_words.Reads as div-words-reads
+use Rattle.division.proofs.zero.choose.Reads as choose-reads
+use Rattle.division.proofs.zero.raise.Reads as raise-reads
 
-slice-aggregate-pair-words : tie.Need-slice-aggregate-pair-words
-slice-aggregate-pair-words c = search needs
+slice-aggregate-raise : tie.Need-slice-aggregate-raise
+slice-aggregate-raise c = search needs
 
-slice-aggregate-pair-words-2 : tie.Need-slice-aggregate-pair-words-2
-slice-aggregate-pair-words-2 c = search needs
-
-pair-words-requires : tie.Need-pair-words-requires
-pair-words-requires c κs = search needs
-
-slice-aggregate-check-words : tie.Need-slice-aggregate-check-words
-slice-aggregate-check-words c = search needs
-
-slice-aggregate-check-words-2 : tie.Need-slice-aggregate-check-words-2
-slice-aggregate-check-words-2 c = search needs
-
-check-words-requires : tie.Need-check-words-requires
+raise-requires : tie.Need-raise-requires
 unfolding filled
-check-words-requires c κs = let p = c .before .before .before .before .before .before .before .before .before .before .before .before .before .before .before .before .before .pre .0 in let q = c .before .before .before .before .before .before .before .before .before .before .before .before .before .before .before .before .before .pre .1 .0 in let r = c .before .before .before .before .before .before .before .before .before .before .before .before .before .before .before .before .before .pre .1 .1 in omega (arith, pair-most (c .before .before .before .before .before .before .before .before .before .before .before .before .before .before .before .before .before .args .node) (c .before .before .before .before .before .before .before .before .before .before .before .before .before .before .before .before .before .args .w) _ (c .before .before .before .before .before .before .before .before .before .before .before .before .before .before .before .before .before .args .at) _ _ _ _ (c .before .before .before .before .before .before .before .before .before .before .before .before .before .before .before .before .before .pre .1 .1 .0) (c .before .before .before .before .before .before .before .before .pair-words .ensures))
+raise-requires c κs = let p = c .before .before .before .before .before .before .before .pre .0 in let r = c .before .before .before .before .before .before .before .pre .1 .1 in (omega arith, (omega arith, omega arith, omega arith, refl))
 
-slice-aggregate-put-asked : tie.Need-slice-aggregate-put-asked
-slice-aggregate-put-asked c = search needs
+slice-aggregate-div-words : tie.Need-slice-aggregate-div-words
+slice-aggregate-div-words c = search needs
 
-slice-aggregate-put-asked-2 : tie.Need-slice-aggregate-put-asked-2
-slice-aggregate-put-asked-2 c = search needs
+slice-aggregate-div-words-2 : tie.Need-slice-aggregate-div-words-2
+slice-aggregate-div-words-2 c = search needs
 
-put-asked-requires : tie.Need-put-asked-requires
+slice-aggregate-div-words-3 : tie.Need-slice-aggregate-div-words-3
+slice-aggregate-div-words-3 c = search needs
+
+div-words-requires : tie.Need-div-words-requires
 unfolding filled
-put-asked-requires c κs = let r = c .before .before .before .before .before .before .before .before .before .before .before .before .before .before .before .before .before .before .before .before .before .before .before .before .before .pre .1 .1 in omega arith
+div-words-requires c κs = let p = c .before .before .before .before .before .before .before .before .before .before .before .before .before .before .before .before .pre .0 in let q = c .before .before .before .before .before .before .before .before .before .before .before .before .before .before .before .before .pre .1 .0 in let r = c .before .before .before .before .before .before .before .before .before .before .before .before .before .before .before .before .pre .1 .1 in let k = raise-most (c .before .before .before .before .before .before .before .before .before .before .before .before .before .before .before .before .args .w) (c .before .before .before .before .before .before .before .before .before .before .before .before .before .before .before .before .args .num .now) (c .before .before .before .before .before .before .before .before .before .before .before .before .before .before .before .before .args .den .now) (c .before .before .before .before .before .before .before .before .before .before .before .before .before .before .before .before .args .gates .now) (c .before .before .before .before .before .before .before .before .before .before .before .before .before .before .before .before .args .cons .now) (c .before .before .before .before .before .before .before .before .before .before .before .before .before .before .before .before .args .at) (c .before .before .before .before .before .before .before .before .before .before .before .before .before .before .before .before .args .m) _ _ _ _ (c .before .before .before .before .before .before .before .before .before .before .before .before .before .before .before .before .pre .1 .1 .0) (c .before .before .before .before .before .before .before .before .before .before .before .before .before .before .before .before .pre .1 .1 .1) (c .before .before .before .before .before .before .before .before .raise .ensures) in (omega arith, (omega arith, (omega arith, omega arith, omega arith, refl, refl)))
+
+slice-aggregate-choose : tie.Need-slice-aggregate-choose
+slice-aggregate-choose c = search needs
+
+slice-aggregate-choose-2 : tie.Need-slice-aggregate-choose-2
+slice-aggregate-choose-2 c = search needs
+
+choose-requires : tie.Need-choose-requires
+unfolding filled
+choose-requires c κs = let p = c .before .before .before .before .before .before .before .before .before .before .before .before .before .before .before .before .before .before .before .before .before .before .before .before .before .before .before .pre .0 in let r = c .before .before .before .before .before .before .before .before .before .before .before .before .before .before .before .before .before .before .before .before .before .before .before .before .before .before .before .pre .1 .1 in omega (arith, words-most (c .before .before .before .before .before .before .before .before .before .before .before .before .before .before .before .before .before .before .before .before .before .before .before .before .before .before .before .args .w) (c .before .before .before .before .before .before .before .before .before .before .before .before .before .before .before .before .before .before .before .before .before .before .before .before .before .before .before .args .num .now) (c .before .before .before .before .before .before .before .before .before .before .before .before .before .before .before .before .before .before .before .before .before .before .before .before .before .before .before .args .den .now) (c .before .before .before .before .before .before .before .before .before .before .before .before .before .before .before .before .before .before .before .before .before .before .before .before .before .before .before .args .gates .now) (c .before .before .before .before .before .before .before .before .before .before .before .before .before .before .before .before .before .before .before .before .before .before .before .before .before .before .before .args .cons .now) (c .before .before .before .before .before .before .before .before .before .before .before .before .before .before .before .before .before .before .before .before .before .before .before .before .before .before .before .args .at) (c .before .before .before .before .before .before .before .before .before .before .before .before .before .before .before .before .before .before .before .before .before .before .before .before .before .before .before .args .m) _ _ _ _ (c .before .before .before .before .before .before .before .before .before .before .before .before .before .before .before .before .before .before .before .before .before .before .before .before .before .before .before .pre .1 .1 .0) (c .before .before .before .before .before .before .before .before .before .before .before .before .before .before .before .before .before .before .before .before .before .before .before .before .before .before .before .pre .1 .1 .1) (c .before .before .before .before .before .before .before .before .before .before .before .before .before .before .before .before .before .before .before .raise .ensures) (c .before .before .before .before .before .before .before .before .before .before .before .before .before .before .before .before .before .before .before .before .before .before .before .before .before .before .before .args .node) _ _ _ _ _ _ (c .before .before .before .before .before .before .before .before .before .before .div-words .ensures))
 
 same-length : tie.Need-same-length
 same-length c = search needs
@@ -50,21 +52,21 @@ same-length-3 c = search needs
 
 returns : tie.Need-returns
 unfolding filled
-returns c = free-path (c .before .before .before .before .before .before .before .before .before .before .before .before .before .before .before .before .before .before .before .before .before .before .before .before .before .before .before .before .args .quotient) (c .before .before .before .before .before .before .before .before .before .before .before .before .before .before .before .before .before .before .before .before .before .before .before .before .before .before .before .before .args .w) (c .before .before .before .before .before .before .before .before .before .before .before .before .before .before .before .before .before .before .before .before .before .before .before .before .before .before .before .before .args .node) (c .before .before .before .before .before .before .before .before .before .before .before .before .before .before .before .before .before .before .before .before .before .before .before .before .before .before .before .before .args .num .now) (c .before .before .before .before .before .before .before .before .before .before .before .before .before .before .before .before .before .before .before .before .before .before .before .before .before .before .before .before .args .den .now) _ _ _ _ _ _ _ _ _ _ _ _ _ _ (c .before .before .before .before .before .before .before .before .before .before .before .before .before .before .before .before .before .before .before .pair-words .ensures) (c .before .before .before .before .before .before .before .before .before .before .check-words .ensures) (c .before .before .put-asked .ensures)
+returns c = free-path (c .before .before .before .before .before .before .before .before .before .before .before .before .before .before .before .before .before .before .before .before .before .before .before .before .before .before .before .before .before .before .before .before .args .w) (c .before .before .before .before .before .before .before .before .before .before .before .before .before .before .before .before .before .before .before .before .before .before .before .before .before .before .before .before .before .before .before .before .args .num .now) (c .before .before .before .before .before .before .before .before .before .before .before .before .before .before .before .before .before .before .before .before .before .before .before .before .before .before .before .before .before .before .before .before .args .den .now) (c .before .before .before .before .before .before .before .before .before .before .before .before .before .before .before .before .before .before .before .before .before .before .before .before .before .before .before .before .before .before .before .before .args .gates .now) (c .before .before .before .before .before .before .before .before .before .before .before .before .before .before .before .before .before .before .before .before .before .before .before .before .before .before .before .before .before .before .before .before .args .cons .now) (c .before .before .before .before .before .before .before .before .before .before .before .before .before .before .before .before .before .before .before .before .before .before .before .before .before .before .before .before .before .before .before .before .args .at) (c .before .before .before .before .before .before .before .before .before .before .before .before .before .before .before .before .before .before .before .before .before .before .before .before .before .before .before .before .before .before .before .before .args .m) (c .before .before .before .before .before .before .before .before .before .before .before .before .before .before .before .before .before .before .before .before .before .before .before .before .before .before .before .before .before .before .before .before .args .z) _ _ _ (c .before .before .before .before .before .before .before .before .before .before .before .before .before .before .before .before .before .before .before .before .before .before .before .before .before .before .before .before .before .before .before .before .pre .1 .1 .0) (c .before .before .before .before .before .before .before .before .before .before .before .before .before .before .before .before .before .before .before .before .before .before .before .before .before .before .before .before .before .before .before .before .pre .1 .1 .1) (c .before .before .before .before .before .before .before .before .before .before .before .before .before .before .before .before .before .before .before .before .before .before .before .before .raise .ensures) (c .before .before .before .before .before .before .before .before .before .before .before .before .before .before .before .before .before .before .before .before .before .before .before .before .before .before .before .before .before .before .before .before .args .node) _ _ _ _ _ _ (c .before .before .before .before .before .before .before .before .before .before .before .before .before .before .before .div-words .ensures) (c .before .before .before .before .before .before .before .before .before .before .before .before .before .before .before .before .before .before .before .before .before .before .before .before .before .before .before .before .before .before .before .before .args .quotient) _ _ _ _ (c .before .before .before .before .choose .ensures)
 
 pub divide-free-spec : {M : Type 1} → statement M
 divide-free-spec =
     tie.close
     (tie.spec
-    slice-aggregate-pair-words
-    slice-aggregate-pair-words-2
-    pair-words-requires
-    slice-aggregate-check-words
-    slice-aggregate-check-words-2
-    check-words-requires
-    slice-aggregate-put-asked
-    slice-aggregate-put-asked-2
-    put-asked-requires
+    slice-aggregate-raise
+    raise-requires
+    slice-aggregate-div-words
+    slice-aggregate-div-words-2
+    slice-aggregate-div-words-3
+    div-words-requires
+    slice-aggregate-choose
+    slice-aggregate-choose-2
+    choose-requires
     same-length
     same-length-2
     same-length-3

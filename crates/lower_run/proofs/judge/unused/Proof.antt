@@ -5,10 +5,10 @@ use Rattle.lower_run.proofs.judge.unused.Statement.{statement}
 use Rattle.lower_run.proofs.judge.unused.Tie as tie
 
 abbrev Inv-loop : tie.InvT-loop
-Inv-loop found from refusal i₀ i = from ≤ i
+Inv-loop found from i₀ i = from ≤ i
 
 abbrev μ-loop : tie.MeasureT-loop
-μ-loop found from refusal i₀ i = length found - i
+μ-loop found from i₀ i = length found - i
 
 loop-holds : tie.Need-loop-holds Inv-loop μ-loop
 loop-holds c = omega arith
@@ -19,8 +19,8 @@ mul-if1 c = omega arith
 shared-slice-read-if1 : tie.Need-shared-slice-read-if1 Inv-loop μ-loop
 shared-slice-read-if1 c = omega arith
 
-left-requires : tie.Need-left-requires Inv-loop μ-loop
-left-requires c κs = omega arith
+before-requires : tie.Need-before-requires Inv-loop μ-loop
+before-requires c κs = omega arith
 
 returns : tie.Need-returns Inv-loop μ-loop
 returns c = omega arith
@@ -46,7 +46,7 @@ unused-spec =
     loop-holds
     mul-if1
     shared-slice-read-if1
-    left-requires
+    before-requires
     returns
     add-i
     loop-less

@@ -22,9 +22,6 @@ enum-told-4 c = search needs
 enum-told-5 : tie.Need-enum-told-5
 enum-told-5 c = search needs
 
-enum-told-6 : tie.Need-enum-told-6
-enum-told-6 c = search needs
-
 returns : tie.Need-returns
 returns c = ap countsOf (sym (c .before .a .given .1))
 
@@ -43,9 +40,6 @@ returns-5 c = ap countsOf (sym (c .enum-told4 .given .1))
 returns-6 : tie.Need-returns-6
 returns-6 c = ap countsOf (sym (c .enum-told5 .given .1))
 
-returns-7 : tie.Need-returns-7
-returns-7 c = ap countsOf (sym (c .enum-told6 .given .1))
-
 pub count-spec : {M : Type 1} → statement M
 count-spec =
     tie.close
@@ -56,11 +50,9 @@ count-spec =
     enum-told-3
     enum-told-4
     enum-told-5
-    enum-told-6
     returns
     returns-2
     returns-3
     returns-4
     returns-5
-    returns-6
-    returns-7)
+    returns-6)

@@ -2,7 +2,7 @@ use Rattle.lowering.proofs.VisitFacts.{goes-mark, is-node, first-less, 
 use Rattle.lowering.specs.Visit.{lowOf}
 use Rattle.nodes.specs.Recipe.{recipe}
 use Rattle.nodes.specs.Source.{source}
-use Rattle.visits.proofs.Paths.{visit-stopped, visit-none, visit-seen, visit-goes}
+use Rattle.visits.proofs.Paths.{visit-none, visit-seen, visit-goes}
 use borrow.Author.Needs.{needs}
 use lib.ListN.{length-set}
 use Prim.Native.Nat.{_+_}
@@ -281,29 +281,25 @@ process-returns : (t : ℕ) → process-lts.Need-returns (
 ) (process-at t) process.Post
 process-returns t c = entered (source (c .before .before .before .before .before .before .before .before .before .before .before .before .before .before .before .before .before .before .before .before .before .before .before .before .before .before .before .before .before .before .before .before .before .before .before .before .before .before .before .before .before .before .before .before .before .before .before .before .before .before .before .before .before .before .before .before .before .before .before .before .before .before .before .args .table .now) (c .before .before .before .before .before .before .before .before .before .before .before .before .before .before .before .before .before .before .before .before .before .before .before .before .before .before .before .before .before .before .before .before .before .before .before .before .before .before .before .before .before .before .before .before .before .before .before .before .before .before .before .before .before .before .before .before .before .before .before .before .before .before .before .args .addrs .now) (c .before .before .before .before .before .before .before .before .before .before .before .before .before .before .before .before .before .before .before .before .before .before .before .before .before .before .before .before .before .before .before .before .before .before .before .before .before .before .before .before .before .before .before .before .before .before .before .before .before .before .before .before .before .before .before .before .before .before .before .before .before .before .before .args .word)) (c .before .before .before .before .before .before .before .before .before .before .before .before .before .before .before .before .before .before .before .before .before .before .before .before .before .before .before .before .before .before .before .before .before .before .before .before .before .before .before .before .before .before .before .before .before .before .before .before .before .before .before .before .before .before .before .before .before .before .before .before .before .before .before .args .offs .now) (c .before .before .before .before .before .before .before .before .before .before .before .before .before .before .before .before .before .before .before .before .before .before .before .before .before .before .before .before .before .before .before .before .before .before .before .before .before .before .before .before .before .before .before .before .before .before .before .before .before .before .before .before .before .before .before .before .before .before .before .before .before .before .before .args .k) (c .before .before .before .before .before .before .before .before .before .before .before .before .before .before .before .before .before .before .before .before .before .before .before .before .before .before .before .before .before .before .before .before .before .before .before .before .before .before .before .before .before .before .before .before .before .before .before .before .before .before .before .before .before .before .before .before .before .before .before .before .before .before .before .pre .1 .1) _ (c .before .before .before .before .before .before .before .before .before .before .before .before .before .before .before .before .before .before .before .before .before .before .before .before .before .before .before .before .before .before .before .before .before .before .before .before .before .before .before .before .before .before .before .before .before .before .before .before .before .before .before .before .before .before .before .node-at .ensures) _ (c .before .before .before .before .before .before .before .before .before .before .before .before .before .before .before .before .before .before .before .before .before .before .before .before .before .before .before .before .before .before .before .before .before .before .before .before .before .before .before .before .before .before .before .before .before .before .before .before .before .before .before .before .before .before .before .before .before .before .before .before .before .before .before .pre .1 .0) _ (c .before .before .before .before .before .before .before .before .before .before .before .before .before .before .before .before .before .before .before .before .before .before .before .before .before .before .before .before .before .before .before .before .before .before .before .before .before .before .before .before .before .before .before .before .before .before .before .before .before .before .visit .ensures) _ (c .before .before .before .before .before .before .before .before .before .before .before .before .before .before .before .before .before .before .before .before .before .before .before .before .before .before .before .before .before .before .before .before .before .before .before .before .before .before .before .before .condition .ensures) _ (c .before .before .before .before .before .before .before .before .before .before .before .before .before .before .before .before .before .before .before .before .before .before .before .before .before .before .before .before .before .before .before .before .before .before .before .before .before .before .before .second .ensures) _ (c .before .before .before .before .before .before .before .before .before .before .before .before .before .before .before .before .before .before .before .before .before .before .before .before .before .before .before .before .before .before .before .before .before .before .visit2 .ensures) _ (c .before .before .before .before .before .before .before .before .before .before .before .before .before .before .before .before .before .before .before .before .before .before .before .before .condition2 .ensures) _ (c .before .before .before .before .before .before .before .before .before .before .before .before .before .before .before .before .before .before .before .before .before .before .before .third .ensures) _ (c .before .before .before .before .before .before .before .before .before .before .before .before .before .before .before .before .before .before .visit3 .ensures) _ (c .before .before .before .before .before .before .own-step .ensures)
 
--- src/visit.rt:33:9
-visit-returns : (t : ℕ) → visit-lts.Need-returns (process-below t, process.Post) (visit-at t) visit.Post
-visit-returns t c = λ f lt. visit-stopped (recipe (source (c .before .before .before .before .before .before .before .before .before .args .table .now) (c .before .before .before .before .before .before .before .before .before .args .addrs .now) (c .before .before .before .before .before .before .before .before .before .args .word))) (c .before .before .before .before .before .before .before .before .before .args .k) f (lowOf (c .before .before .before .before .before .before .before .before .before .args .gates .now) (c .before .before .before .before .before .before .before .before .before .args .cons .now) (c .before .before .before .before .before .before .before .before .before .args .map .now) (c .before .before .before .before .before .before .before .before .before .args .seen .now) (c .before .before .before .before .before .before .before .before .before .args .p)) (c .if1 .taken)
-
 -- src/visit.rt:36:9
-visit-returns-2 : (t : ℕ) → visit-lts.Need-returns-2 (process-below t, process.Post) (visit-at t) visit.Post
-visit-returns-2 t c = λ f lt. visit-none (recipe (source (c .before .before .before .before .before .before .before .before .before .before .args .table .now) (c .before .before .before .before .before .before .before .before .before .before .args .addrs .now) (c .before .before .before .before .before .before .before .before .before .before .args .word))) (c .before .before .before .before .before .before .before .before .before .before .args .k) f (lowOf (c .before .before .before .before .before .before .before .before .before .before .args .gates .now) (c .before .before .before .before .before .before .before .before .before .before .args .cons .now) (c .before .before .before .before .before .before .before .before .before .before .args .map .now) (c .before .before .before .before .before .before .before .before .before .before .args .seen .now) (c .before .before .before .before .before .before .before .before .before .before .args .p)) (c .before .if1 .left) (c .if2 .taken)
+visit-returns : (t : ℕ) → visit-lts.Need-returns (process-below t, process.Post) (visit-at t) visit.Post
+visit-returns t c = λ f lt. visit-none (recipe (source (c .before .before .before .before .before .before .before .before .args .table .now) (c .before .before .before .before .before .before .before .before .args .addrs .now) (c .before .before .before .before .before .before .before .before .args .word))) (c .before .before .before .before .before .before .before .before .args .k) f (lowOf (c .before .before .before .before .before .before .before .before .args .gates .now) (c .before .before .before .before .before .before .before .before .args .cons .now) (c .before .before .before .before .before .before .before .before .args .map .now) (c .before .before .before .before .before .before .before .before .args .seen .now) (c .before .before .before .before .before .before .before .before .args .p)) (c .if1 .taken)
 
 -- src/visit.rt:38:8
-visit-slice-read-if3 : (t : ℕ) → visit-lts.Need-slice-read-if3 (process-below t, process.Post) (visit-at t) visit.Post
-visit-slice-read-if3 t c = omega (arith, c .before .before .before .before .before .before .before .before .before .before .before .pre .1 .0 .marked, c .before .before .before .before .before .before .before .before .before .before .before .pre .1 .1)
+visit-slice-read-if2 : (t : ℕ) → visit-lts.Need-slice-read-if2 (process-below t, process.Post) (visit-at t) visit.Post
+visit-slice-read-if2 t c = omega (arith, c .before .before .before .before .before .before .before .before .before .pre .1 .0 .marked, c .before .before .before .before .before .before .before .before .before .pre .1 .1)
 
 -- src/visit.rt:39:9
-visit-returns-3 : (t : ℕ) → visit-lts.Need-returns-3 (process-below t, process.Post) (visit-at t) visit.Post
-visit-returns-3 t c = λ f lt. visit-seen (recipe (source (c .before .before .before .before .before .before .before .before .before .before .before .before .args .table .now) (c .before .before .before .before .before .before .before .before .before .before .before .before .args .addrs .now) (c .before .before .before .before .before .before .before .before .before .before .before .before .args .word))) (c .before .before .before .before .before .before .before .before .before .before .before .before .args .k) f (lowOf (c .before .before .before .before .before .before .before .before .before .before .before .before .args .gates .now) (c .before .before .before .before .before .before .before .before .before .before .before .before .args .cons .now) (c .before .before .before .before .before .before .before .before .before .before .before .before .args .map .now) (c .before .before .before .before .before .before .before .before .before .before .before .before .args .seen .now) (c .before .before .before .before .before .before .before .before .before .before .before .before .args .p)) (c .before .before .before .if1 .left) (c .before .before .if2 .left) (c .if3 .taken)
+visit-returns-2 : (t : ℕ) → visit-lts.Need-returns-2 (process-below t, process.Post) (visit-at t) visit.Post
+visit-returns-2 t c = λ f lt. visit-seen (recipe (source (c .before .before .before .before .before .before .before .before .before .before .args .table .now) (c .before .before .before .before .before .before .before .before .before .before .args .addrs .now) (c .before .before .before .before .before .before .before .before .before .before .args .word))) (c .before .before .before .before .before .before .before .before .before .before .args .k) f (lowOf (c .before .before .before .before .before .before .before .before .before .before .args .gates .now) (c .before .before .before .before .before .before .before .before .before .before .args .cons .now) (c .before .before .before .before .before .before .before .before .before .before .args .map .now) (c .before .before .before .before .before .before .before .before .before .before .args .seen .now) (c .before .before .before .before .before .before .before .before .before .before .args .p)) (c .before .before .if1 .left) (c .if2 .taken)
 
 -- src/visit.rt:41:5
 visit-slice-write-seen : (t : ℕ) → visit-lts.Need-slice-write-seen (process-below t, process.Post) (visit-at t) visit.Post
-visit-slice-write-seen t c = omega (arith, c .before .before .before .before .before .before .before .before .before .before .before .before .pre .1 .0 .marked, c .before .before .before .before .before .before .before .before .before .before .before .before .pre .1 .1)
+visit-slice-write-seen t c = omega (arith, c .before .before .before .before .before .before .before .before .before .before .pre .1 .0 .marked, c .before .before .before .before .before .before .before .before .before .before .pre .1 .1)
 
 -- src/visit.rt:42:5
 visit-process-requires : (t : ℕ) → visit-lts.Need-process-requires (process-below t, process.Post) (visit-at t) visit.Post
-visit-process-requires t c κs = (omega (arith, c .before .before .before .before .before .before .before .before .before .before .before .before .before .before .before .before .pre .0), (goes-mark (c .before .before .before .before .before .before .before .before .before .before .before .before .before .before .before .before .args .k) (c .before .before .before .before .before .before .before .before .before .before .before .before .before .before .before .before .pre .1 .0) (c .before .before .before .before .before .before .before .before .before .before .before .before .before .before .before .before .pre .1 .1) (c .before .before .before .before .if3 .left), is-node (source (c .before .before .before .before .before .before .before .before .before .before .before .before .before .before .before .before .args .table .now) (c .before .before .before .before .before .before .before .before .before .before .before .before .before .before .before .before .args .addrs .now) (c .before .before .before .before .before .before .before .before .before .before .before .before .before .before .before .before .args .word)) (c .before .before .before .before .before .before .before .before .before .before .before .before .before .before .before .before .args .k) (c .before .before .before .before .before .before .before .before .before .before .before .before .before .before .before .before .pre .1 .1) (c .before .before .before .before .before .before .if2 .left)))
+visit-process-requires t c κs = (omega (arith, c .before .before .before .before .before .before .before .before .before .before .before .before .before .before .pre .0), (goes-mark (c .before .before .before .before .before .before .before .before .before .before .before .before .before .before .args .k) (c .before .before .before .before .before .before .before .before .before .before .before .before .before .before .pre .1 .0) (c .before .before .before .before .before .before .before .before .before .before .before .before .before .before .pre .1 .1) (c .before .before .before .before .if2 .left), is-node (source (c .before .before .before .before .before .before .before .before .before .before .before .before .before .before .args .table .now) (c .before .before .before .before .before .before .before .before .before .before .before .before .before .before .args .addrs .now) (c .before .before .before .before .before .before .before .before .before .before .before .before .before .before .args .word)) (c .before .before .before .before .before .before .before .before .before .before .before .before .before .before .args .k) (c .before .before .before .before .before .before .before .before .before .before .before .before .before .before .pre .1 .1) (c .before .before .before .before .before .before .if1 .left)))
 
 -- src/visit.rt:17:1
 visit-same-length : (t : ℕ) → visit-lts.Need-same-length (process-below t, process.Post) (visit-at t) visit.Post
@@ -319,11 +315,11 @@ visit-same-length-3 t c = c .before .before .before .before .before .before .bef
 
 -- src/visit.rt:17:1
 visit-same-length-4 : (t : ℕ) → visit-lts.Need-same-length-4 (process-below t, process.Post) (visit-at t) visit.Post
-visit-same-length-4 t c = c .before .before .before .before .before .before .before .before .process .kept .1 .1 .1 .1 .1 .1 .1 .0 ∙ length-set (c .before .before .before .before .before .before .before .before .before .before .before .before .before .before .before .before .before .before .before .before .before .before .before .before .before .args .seen .now) (c .before .before .before .before .before .before .before .before .before .before .before .before .before .before .before .before .before .before .before .before .before .before .before .before .before .args .k) 1
+visit-same-length-4 t c = c .before .before .before .before .before .before .before .before .process .kept .1 .1 .1 .1 .1 .1 .1 .0 ∙ length-set (c .before .before .before .before .before .before .before .before .before .before .before .before .before .before .before .before .before .before .before .before .before .before .before .args .seen .now) (c .before .before .before .before .before .before .before .before .before .before .before .before .before .before .before .before .before .before .before .before .before .before .before .args .k) 1
 
 -- src/visit.rt:17:1
-visit-returns-4 : (t : ℕ) → visit-lts.Need-returns-4 (process-below t, process.Post) (visit-at t) visit.Post
-visit-returns-4 t c = λ f lt. visit-goes (recipe (source (c .before .before .before .before .before .before .before .before .before .before .before .before .before .before .before .before .before .before .before .before .before .before .before .before .before .args .table .now) (c .before .before .before .before .before .before .before .before .before .before .before .before .before .before .before .before .before .before .before .before .before .before .before .before .before .args .addrs .now) (c .before .before .before .before .before .before .before .before .before .before .before .before .before .before .before .before .before .before .before .before .before .before .before .before .before .args .word))) (c .before .before .before .before .before .before .before .before .before .before .before .before .before .before .before .before .before .before .before .before .before .before .before .before .before .args .k) f (lowOf (c .before .before .before .before .before .before .before .before .before .before .before .before .before .before .before .before .before .before .before .before .before .before .before .before .before .args .gates .now) (c .before .before .before .before .before .before .before .before .before .before .before .before .before .before .before .before .before .before .before .before .before .before .before .before .before .args .cons .now) (c .before .before .before .before .before .before .before .before .before .before .before .before .before .before .before .before .before .before .before .before .before .before .before .before .before .args .map .now) (c .before .before .before .before .before .before .before .before .before .before .before .before .before .before .before .before .before .before .before .before .before .before .before .before .before .args .seen .now) (c .before .before .before .before .before .before .before .before .before .before .before .before .before .before .before .before .before .before .before .before .before .before .before .before .before .args .p)) _ lt (c .before .before .before .before .before .before .before .before .before .before .before .before .before .before .before .before .if1 .left) (c .before .before .before .before .before .before .before .before .before .before .before .before .before .before .before .if2 .left) (c .before .before .before .before .before .before .before .before .before .before .before .before .before .if3 .left) (c .before .before .before .before .before .before .before .before .process .ensures)
+visit-returns-3 : (t : ℕ) → visit-lts.Need-returns-3 (process-below t, process.Post) (visit-at t) visit.Post
+visit-returns-3 t c = λ f lt. visit-goes (recipe (source (c .before .before .before .before .before .before .before .before .before .before .before .before .before .before .before .before .before .before .before .before .before .before .before .args .table .now) (c .before .before .before .before .before .before .before .before .before .before .before .before .before .before .before .before .before .before .before .before .before .before .before .args .addrs .now) (c .before .before .before .before .before .before .before .before .before .before .before .before .before .before .before .before .before .before .before .before .before .before .before .args .word))) (c .before .before .before .before .before .before .before .before .before .before .before .before .before .before .before .before .before .before .before .before .before .before .before .args .k) f (lowOf (c .before .before .before .before .before .before .before .before .before .before .before .before .before .before .before .before .before .before .before .before .before .before .before .args .gates .now) (c .before .before .before .before .before .before .before .before .before .before .before .before .before .before .before .before .before .before .before .before .before .before .before .args .cons .now) (c .before .before .before .before .before .before .before .before .before .before .before .before .before .before .before .before .before .before .before .before .before .before .before .args .map .now) (c .before .before .before .before .before .before .before .before .before .before .before .before .before .before .before .before .before .before .before .before .before .before .before .args .seen .now) (c .before .before .before .before .before .before .before .before .before .before .before .before .before .before .before .before .before .before .before .before .before .before .before .args .p)) _ lt (c .before .before .before .before .before .before .before .before .before .before .before .before .before .before .before .if1 .left) (c .before .before .before .before .before .before .before .before .before .before .before .before .before .if2 .left) (c .before .before .before .before .before .before .before .before .process .ensures)
 
 pub +process+visit-spec : {M : Type 1} → statement M
 +process+visit-spec = close μ-process μ-visit (λ t. process-lts.spec (
@@ -361,13 +357,12 @@ pub +process+visit-spec : {M : Type 1} → statement M
     (visit-at t)
     visit.Post
     (visit-returns t)
+    (visit-slice-read-if2 t)
     (visit-returns-2 t)
-    (visit-slice-read-if3 t)
-    (visit-returns-3 t)
     (visit-slice-write-seen t)
     (visit-process-requires t)
     (visit-same-length t)
     (visit-same-length-2 t)
     (visit-same-length-3 t)
     (visit-same-length-4 t)
-    (visit-returns-4 t)
+    (visit-returns-3 t)
