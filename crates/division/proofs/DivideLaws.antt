@@ -277,6 +277,6 @@ divide-most quotient w node n d st big small fits = go (divide-law quotient w no
     go (inl k) = (k .grows .upto, omega (arith, ap (λ (c : Cons). c .m) (k .cons)))
     go (inr k) = (k .grows .upto, omega (arith, k .more .count))
 
--- document 01's numbers
+-- the numbers of document 01, a division's with request 04's 5w more
 ceilings : (divideCost 4 ≡ 111) × (conCount 4 ≡ 16) × (divideCost 64 ≡ 11361) × (mulCost 4 ≡ 40)
 ceilings = (refl, refl, refl, refl)

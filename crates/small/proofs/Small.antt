@@ -133,7 +133,7 @@ pub record Row : Type 0 where
 abbrev pub row : Ask → ℕ → Row
 row q a = record { ask = q; answer = a }
 
--- document 01's answers, in its order
+-- document 01's answers, in its order; a division's ceiling has request 04's 5w more
 abbrev pub rows : List Row
 rows =
     row refusal 0
