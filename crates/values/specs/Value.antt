@@ -5,22 +5,10 @@ use lib.Bits.{bitAnd, bitOr}
 use lib.Dec.{eqb, ltb}
 use lib.ListN.{getD, length}
 use Rattle.loops.specs.Loop.{pick, first, bit}
+unfoldable pub use Rattle.digits.specs.Op.{notWord, addWord, subWord, mulWord, sllWord, srlWord}
 use Rattle.table.specs.declared.Node.{Node}
 use Rattle.table.specs.Kind.{CONST, STATE, NOT, AND, EQ, ADD, ITE, SUB, ULT, MUL, DIVU, REM, READ, WRITE, OR, SLL, SRL, SEXT, accesses}
 use Rattle.table.specs.Sheet.{isAt}
-
--- modulo 2^v
-unfoldable pub notWord : ℕ → ℕ → ℕ
-notWord v x = 2 ^ v - 1 - x % 2 ^ v
-
-unfoldable pub addWord : ℕ → ℕ → ℕ → ℕ
-addWord v x y = (x + y) % 2 ^ v
-
-unfoldable pub subWord : ℕ → ℕ → ℕ → ℕ
-subWord v x y = (x + (2 ^ v - y % 2 ^ v)) % 2 ^ v
-
-unfoldable pub mulWord : ℕ → ℕ → ℕ → ℕ
-mulWord v x y = x * y % 2 ^ v
 
 -- divu by 0 is all ones, rem by 0 is the dividend
 unfoldable pub divWord : ℕ → ℕ → ℕ → ℕ
@@ -28,13 +16,6 @@ divWord v x y = pick (eqb y 0) (2 ^ v - 1) (x / y)
 
 unfoldable pub remWord : ℕ → ℕ → ℕ
 remWord x y = pick (eqb y 0) x (x % y)
-
--- a shift by y places; an amount of width or more gives zero
-unfoldable pub sllWord : ℕ → ℕ → ℕ → ℕ
-sllWord v x y = pick (ltb y v) (x * 2 ^ y % 2 ^ v) 0
-
-unfoldable pub srlWord : ℕ → ℕ → ℕ → ℕ
-srlWord v x y = pick (ltb y v) (x / 2 ^ y) 0
 
 -- a signed extension from v to w bits: the upper bits are copies of the top bit
 unfoldable pub sextWord : ℕ → ℕ → ℕ → ℕ

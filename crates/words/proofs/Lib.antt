@@ -8,4 +8,5 @@ pub mod JoinLaws
 pub mod EqLaws
 pub mod MulLaws
 pub mod ShiftLaws
+pub mod OpLaws
 pub mod Paths

@@ -7,3 +7,4 @@ pub mod Sub
 pub mod Eq
 pub mod Mul
 pub mod Shift
+pub mod Op
