@@ -1,3 +1,4 @@
+pub mod Ops
 pub mod Whole
 pub mod Unique
 pub mod Small

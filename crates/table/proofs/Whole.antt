@@ -2,7 +2,7 @@
 use mathlib.Core.Path.{_≡_, refl, ap, sym, _∙_}
 use mathlib.Core.List.{List}
 use mathlib.Core.Logic.{_⊎_, inl, inr}
-use mathlib.Core.Bool.{Bool, true, false, not, _&&_, _||_}
+use mathlib.Core.Bool.{Bool, true, false, not, _&&_, _||_, false≢true}
 use Prim.Native.Nat.{ℕ, zero, suc, _+_, _-_, _%_, _^_, _≤_, _<_}
 use native.Mathlib.Omega.{arith}
 use native.Mathlib.Decide.{decLt}
@@ -12,10 +12,12 @@ use lib.ListN.{length, getD}
 use borrow.Author.Tests.{lt-ltb, leb-true, ltb-true, ltb-false, eqb-true, eqb-false, eq-eqb, not-false}
 use Rattle.loops.specs.Loop.{pick, first}
 use Rattle.loops.proofs.Loop.{first-true, first-below, first-found, first-le, pick-true, both, either}
+use Rattle.digits.specs.Op.{Op, opNot, opAnd, opOr, opEq, opAdd, opSub, opUlt, opMul, opSll, opSrl, opTwo, opOne, opWide}
 use Rattle.table.specs.declared.Fault.{Fault}
 use Rattle.table.specs.declared.Fault.the-variants.{Clear, Size, Address, Kind, NotLowered, Operand, Sort}
 use Rattle.table.specs.declared.Node.{Node}
 use Rattle.table.specs.Kind.{CONST, INPUT, STATE, NOT, BAD, AND, EXT, EQ, ADD, ITE, SUB, ULT, MUL, DIVU, REM, READ, WRITE, OR, SLL, SRL, SEXT, named, lowered, mayUseA, usesA, usesB, usesC, usesImm, evenly, extends, compares}
+use Rattle.table.specs.Op.{opKind}
 use Rattle.table.specs.Node.{fieldAt, nodes, nodeAt, kindOf, widthOf, aOf, bOf, cOf, Narrow, Fine}
 use Rattle.table.specs.Sheet.{isClear, sizeGood, isAt, addressBad, addressesBad, operand, operandsGood, sortGood, sortsGood, faultOf, nodeFault, nodeBad, nodesFault, tableFault, asksAt, asks}
 use Rattle.table.proofs.field.Laws.{field-out}
@@ -78,11 +80,11 @@ pub record Even (v va vb : ℕ) : Type 0 where
   pub left : va ≡ v
   pub right : vb ≡ v
 
--- 1 wide over two words of one width
-pub record Compared (v va vb : ℕ) : Type 0 where
-  pub one : v ≡ 1
+-- a plain operation, over words of one width
+pub record OpSort (o : Op) (v va vb : ℕ) : Type 0 where
   pub word : 1 ≤ va
-  pub same : vb ≡ va
+  pub wide : v ≡ opWide o va
+  pub same : opTwo o ≡ true → vb ≡ va
 
 -- over a word, and at least as wide
 pub record Extended (v va : ℕ) : Type 0 where
@@ -94,23 +96,14 @@ pub data Rule (w : ℕ) (d : Node) (va vb vc : ℕ) : Type 0 where
   is-const : d .kind ≡ CONST → 1 ≤ d .width → d .imm < 2 ^ d .width → Rule w d va vb vc
   is-input : d .kind ≡ INPUT → Rule w d va vb vc
   is-state : d .kind ≡ STATE → (d .a ≡ 0) ⊎ (va ≡ d .width) → Rule w d va vb vc
-  is-not : d .kind ≡ NOT → 1 ≤ d .width → va ≡ d .width → Rule w d va vb vc
+  is-op : (o : Op) → d .kind ≡ opKind o → OpSort o (d .width) va vb → Rule w d va vb vc
   is-bad : d .kind ≡ BAD → d .width ≡ 1 → va ≡ 1 → Rule w d va vb vc
-  is-and : d .kind ≡ AND → Even (d .width) va vb → Rule w d va vb vc
   is-ext : d .kind ≡ EXT → Extended (d .width) va → Rule w d va vb vc
-  is-eq : d .kind ≡ EQ → Compared (d .width) va vb → Rule w d va vb vc
-  is-add : d .kind ≡ ADD → Even (d .width) va vb → Rule w d va vb vc
   is-ite : d .kind ≡ ITE → va ≡ 1 → vb ≡ d .width → vc ≡ d .width → Rule w d va vb vc
-  is-sub : d .kind ≡ SUB → Even (d .width) va vb → Rule w d va vb vc
-  is-ult : d .kind ≡ ULT → Compared (d .width) va vb → Rule w d va vb vc
-  is-mul : d .kind ≡ MUL → Even (d .width) va vb → Rule w d va vb vc
   is-divu : d .kind ≡ DIVU → Even (d .width) va vb → Rule w d va vb vc
   is-rem : d .kind ≡ REM → Even (d .width) va vb → Rule w d va vb vc
   is-read : d .kind ≡ READ → d .width ≡ w → va ≡ 0 → vb ≡ w → Rule w d va vb vc
   is-write : d .kind ≡ WRITE → d .width ≡ 0 → va ≡ 0 → vb ≡ w → vc ≡ w → Rule w d va vb vc
-  is-or : d .kind ≡ OR → Even (d .width) va vb → Rule w d va vb vc
-  is-sll : d .kind ≡ SLL → Even (d .width) va vb → Rule w d va vb vc
-  is-srl : d .kind ≡ SRL → Even (d .width) va vb → Rule w d va vb vc
   is-sext : d .kind ≡ SEXT → Extended (d .width) va → Rule w d va vb vc
 
 and3 : (a b c : Bool) → (a && b && c) ≡ true → (a ≡ true) × (b ≡ true) × (c ≡ true)
@@ -148,17 +141,26 @@ module _ (w : ℕ) (d : Node) (va vb vc : ℕ) where
       (λ h. f9 (eqb-true k SRL h))
       e
 
+  even-op : (o : Op) → opOne o ≡ false → Even (d .width) va vb → d .kind ≡ opKind o → R
+  unfolding pick
+  even-op o h s e = is-op o e (record { word = omega (arith, s .word, s .left); wide = rw h (sym (s .left)); same = λ _. s .right ∙ sym (s .left) })
+
   by-even : (evenly (d .kind) && leb 1 (d .width) && eqb va (d .width) && eqb vb (d .width)) ≡ true → R
+  unfolding opOne
   by-even h =
       let p = and4 (evenly (d .kind)) (leb 1 (d .width)) (eqb va (d .width)) (eqb vb (d .width)) h in
       let s : Even (d .width) va vb = record { word = leb-true 1 (d .width) (p .1); left = eqb-true va (d .width) (p .2); right = eqb-true vb (d .width) (p .3) } in
-      one-of (d .kind) (p .0) (λ e. is-and e s) (λ e. is-add e s) (λ e. is-sub e s) (λ e. is-mul e s) (λ e. is-divu e s) (λ e. is-rem e s) (λ e. is-or e s) (λ e. is-sll e s) (λ e. is-srl e s)
+      one-of (d .kind) (p .0) (even-op opAnd refl s) (even-op opAdd refl s) (even-op opSub refl s) (even-op opMul refl s) (λ e. is-divu e s) (λ e. is-rem e s) (even-op opOr refl s)
+      (even-op opSll refl s) (even-op opSrl refl s)
 
   by-compare : (compares (d .kind) && eqb (d .width) 1 && leb 1 va && eqb vb va) ≡ true → R
+  unfolding opOne pick
   by-compare h =
       let p = and4 (compares (d .kind)) (eqb (d .width) 1) (leb 1 va) (eqb vb va) h in
-      let s : Compared (d .width) va vb = record { one = eqb-true (d .width) 1 (p .1); word = leb-true 1 va (p .2); same = eqb-true vb va (p .3) } in
-      either (eqb (d .kind) EQ) (eqb (d .kind) ULT) R (λ e. is-eq (eqb-true (d .kind) EQ e) s) (λ e. is-ult (eqb-true (d .kind) ULT e) s) (p .0)
+      either (eqb (d .kind) EQ) (eqb (d .kind) ULT) R
+      (λ e. is-op opEq (eqb-true (d .kind) EQ e) (record { word = leb-true 1 va (p .2); wide = eqb-true (d .width) 1 (p .1); same = λ _. eqb-true vb va (p .3) }))
+      (λ e. is-op opUlt (eqb-true (d .kind) ULT e) (record { word = leb-true 1 va (p .2); wide = eqb-true (d .width) 1 (p .1); same = λ _. eqb-true vb va (p .3) }))
+      (p .0)
 
   by-const : (eqb (d .kind) CONST && leb 1 (d .width) && ltb (d .imm) (2 ^ d .width)) ≡ true → R
   by-const h = let p = and3 (eqb (d .kind) CONST) (leb 1 (d .width)) (ltb (d .imm) (2 ^ d .width)) h in is-const (eqb-true (d .kind) CONST (p .0)) (leb-true 1 (d .width) (p .1)) (ltb-true (d .imm) (2 ^ d .width) (p .2))
@@ -170,7 +172,11 @@ module _ (w : ℕ) (d : Node) (va vb vc : ℕ) where
       (either (eqb (d .a) 0) (eqb va (d .width)) ((d .a ≡ 0) ⊎ (va ≡ d .width)) (λ e. inl (eqb-true (d .a) 0 e)) (λ e. inr (eqb-true va (d .width) e)) (p .1))
 
   by-not : (eqb (d .kind) NOT && leb 1 (d .width) && eqb va (d .width)) ≡ true → R
-  by-not h = let p = and3 (eqb (d .kind) NOT) (leb 1 (d .width)) (eqb va (d .width)) h in is-not (eqb-true (d .kind) NOT (p .0)) (leb-true 1 (d .width) (p .1)) (eqb-true va (d .width) (p .2))
+  unfolding opOne opTwo pick
+  by-not h =
+      let p = and3 (eqb (d .kind) NOT) (leb 1 (d .width)) (eqb va (d .width)) h in
+      let e : va ≡ d .width = eqb-true va (d .width) (p .2) in
+      is-op opNot (eqb-true (d .kind) NOT (p .0)) (record { word = omega (arith, leb-true 1 (d .width) (p .1)); wide = sym e; same = λ z. absurd (false≢true z) })
 
   by-bad : (eqb (d .kind) BAD && eqb (d .width) 1 && eqb va 1) ≡ true → R
   by-bad h = let p = and3 (eqb (d .kind) BAD) (eqb (d .width) 1) (eqb va 1) h in is-bad (eqb-true (d .kind) BAD (p .0)) (eqb-true (d .width) 1 (p .1)) (eqb-true va 1 (p .2))

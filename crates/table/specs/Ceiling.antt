@@ -4,7 +4,7 @@ use mathlib.Core.Bool.{_||_}
 use Prim.Native.Nat.{ℕ, _+_, _-_, _*_, _/_}
 use lib.Dec.{eqb}
 use Rattle.loops.specs.Loop.{pick, sum}
-use Rattle.digits.specs.Digits.{powersBelow}
+unfoldable pub use Rattle.digits.specs.Op.{shiftGates}
 use Rattle.table.specs.declared.Node.{Node}
 use Rattle.table.specs.declared.Sums.{Sums}
 use Rattle.table.specs.declared.Unit.the-variants.{Bit}
@@ -18,10 +18,6 @@ divGates v = 2 * v * v + 18 * v + 1 + v * (v - 1) / 2
 
 unfoldable pub divConstraints : ℕ → ℕ
 divConstraints v = v * (v - 1) / 2 + 2 * v + 2
-
--- sll, srl: a stage for each power of two below the width
-unfoldable pub shiftGates : ℕ → ℕ
-shiftGates v = 3 * v * powersBelow v + 2 * v - powersBelow v - 1
 
 -- read, write: k gates a bit, less one, for each listed address
 unfoldable pub memoryGates : ℕ → ℕ → ℕ → ℕ

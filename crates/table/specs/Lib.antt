@@ -1,4 +1,5 @@
 pub mod Kind
+pub mod Op
 pub mod Node
 pub mod Sheet
 pub mod Size

@@ -3,14 +3,15 @@ use mathlib.Core.Path.{_≡_}
 use mathlib.Core.List.{List}
 use mathlib.Core.Bool.{true}
 use Prim.Native.Nat.{ℕ, _+_}
-use lib.Bits.{bitAnd, bitOr}
-use lib.Dec.{eqb, ltb}
 use lib.ListN.{getD}
-use Rattle.loops.specs.Loop.{pick, bit}
+use Rattle.loops.specs.Loop.{pick}
 use Rattle.loops.proofs.Loop.{pick-true}
+use Rattle.digits.specs.Op.{Op, opValue}
+use Rattle.digits.proofs.Ops.{each-op}
 use Rattle.table.specs.declared.Node.{Node}
-use Rattle.table.specs.Kind.{CONST, STATE, NOT, BAD, AND, EXT, EQ, ADD, ITE, SUB, ULT, MUL, DIVU, REM, READ, WRITE, OR, SLL, SRL, SEXT, accesses}
-use Rattle.values.specs.Value.{listed, notWord, addWord, subWord, mulWord, divWord, remWord, sllWord, srlWord, sextWord, wordValue, readValue, writeValue, iteValue, placeAt, slotAt}
+use Rattle.table.specs.Kind.{CONST, STATE, BAD, EXT, ITE, DIVU, REM, READ, WRITE, SEXT, accesses}
+use Rattle.table.specs.Op.{opKind}
+use Rattle.values.specs.Value.{listed, divWord, remWord, sextWord, wordValue, readValue, writeValue, iteValue, placeAt, slotAt}
 
 module _ (l : List ℕ) (d : Node) (v : ℕ) (x : List ℕ) (a b c p j : ℕ) where
   pub at-const : d .kind ≡ CONST → slotAt l d v x a b c p j ≡ d .imm
@@ -21,45 +22,17 @@ module _ (l : List ℕ) (d : Node) (v : ℕ) (x : List ℕ) (a b c p j : ℕ) wh
   unfolding slotAt pick
   at-state e = rw e
 
-  pub at-not : d .kind ≡ NOT → slotAt l d v x a b c p j ≡ notWord (d .width) (getD x a 0)
-  unfolding slotAt wordValue pick
-  at-not e = rw e
-
   pub at-bad : d .kind ≡ BAD → slotAt l d v x a b c p j ≡ getD x a 0
   unfolding slotAt wordValue pick
   at-bad e = rw e
-
-  pub at-and : d .kind ≡ AND → slotAt l d v x a b c p j ≡ bitAnd (getD x a 0) (getD x b 0)
-  unfolding slotAt wordValue pick
-  at-and e = rw e
 
   pub at-ext : d .kind ≡ EXT → slotAt l d v x a b c p j ≡ getD x a 0
   unfolding slotAt wordValue pick
   at-ext e = rw e
 
-  pub at-eq : d .kind ≡ EQ → slotAt l d v x a b c p j ≡ bit (eqb (getD x a 0) (getD x b 0))
-  unfolding slotAt wordValue pick
-  at-eq e = rw e
-
-  pub at-add : d .kind ≡ ADD → slotAt l d v x a b c p j ≡ addWord (d .width) (getD x a 0) (getD x b 0)
-  unfolding slotAt wordValue pick
-  at-add e = rw e
-
   pub at-ite : d .kind ≡ ITE → slotAt l d v x a b c p j ≡ iteValue x a b c j
   unfolding slotAt pick
   at-ite e = rw e
-
-  pub at-sub : d .kind ≡ SUB → slotAt l d v x a b c p j ≡ subWord (d .width) (getD x a 0) (getD x b 0)
-  unfolding slotAt wordValue pick
-  at-sub e = rw e
-
-  pub at-ult : d .kind ≡ ULT → slotAt l d v x a b c p j ≡ bit (ltb (getD x a 0) (getD x b 0))
-  unfolding slotAt wordValue pick
-  at-ult e = rw e
-
-  pub at-mul : d .kind ≡ MUL → slotAt l d v x a b c p j ≡ mulWord (d .width) (getD x a 0) (getD x b 0)
-  unfolding slotAt wordValue pick
-  at-mul e = rw e
 
   pub at-divu : d .kind ≡ DIVU → slotAt l d v x a b c p j ≡ divWord (d .width) (getD x a 0) (getD x b 0)
   unfolding slotAt wordValue pick
@@ -77,21 +50,15 @@ module _ (l : List ℕ) (d : Node) (v : ℕ) (x : List ℕ) (a b c p j : ℕ) wh
   unfolding slotAt pick
   at-write e = rw e
 
-  pub at-or : d .kind ≡ OR → slotAt l d v x a b c p j ≡ bitOr (getD x a 0) (getD x b 0)
-  unfolding slotAt wordValue pick
-  at-or e = rw e
-
-  pub at-sll : d .kind ≡ SLL → slotAt l d v x a b c p j ≡ sllWord (d .width) (getD x a 0) (getD x b 0)
-  unfolding slotAt wordValue pick
-  at-sll e = rw e
-
-  pub at-srl : d .kind ≡ SRL → slotAt l d v x a b c p j ≡ srlWord (d .width) (getD x a 0) (getD x b 0)
-  unfolding slotAt wordValue pick
-  at-srl e = rw e
-
   pub at-sext : d .kind ≡ SEXT → slotAt l d v x a b c p j ≡ sextWord v (d .width) (getD x a 0)
   unfolding slotAt wordValue pick
   at-sext e = rw e
+
+  pub at-op : (o : Op) → d .kind ≡ opKind o → slotAt l d v x a b c p j ≡ opValue o (d .width) (getD x a 0) (getD x b 0)
+  unfolding slotAt wordValue pick opValue
+  at-op =
+      each-op (λ o. d .kind ≡ opKind o → slotAt l d v x a b c p j ≡ opValue o (d .width) (getD x a 0) (getD x b 0))
+      (λ e. rw e) (λ e. rw e) (λ e. rw e) (λ e. rw e) (λ e. rw e) (λ e. rw e) (λ e. rw e) (λ e. rw e) (λ e. rw e) (λ e. rw e)
 
 -- the place of a read's or write's address
 pub place-access : (l : List ℕ) (d : Node) (x : List ℕ) (b : ℕ) → accesses (d .kind) ≡ true → placeAt l d x b ≡ listed l (getD x b 0)

@@ -14,12 +14,14 @@ use Rattle.loops.specs.Loop.{pick, iter, bit}
 use Rattle.table.specs.declared.Node.{Node}
 use Rattle.table.specs.Kind.{usesA, usesB, usesC, accesses}
 use Rattle.table.specs.Node.{nodes, nodeAt, widthOf, aOf, bOf, cOf}
-use Rattle.table.proofs.Whole.{Sound, Rule, is-const, is-input, is-state, is-not, is-bad, is-and, is-ext, is-eq, is-add, is-ite, is-sub, is-ult, is-mul, is-divu, is-rem, is-read, is-write, is-or, is-sll, is-srl, is-sext, within, each-sound}
+use Rattle.digits.proofs.Ops.{op-same}
+use Rattle.table.proofs.Ops.{op-a, op-b}
+use Rattle.table.proofs.Whole.{Sound, Rule, is-const, is-input, is-state, is-op, is-bad, is-ext, is-ite, is-divu, is-rem, is-read, is-write, is-sext, within, each-sound}
 use Rattle.values.specs.declared.Answer.the-variants.{Done}
-use Rattle.values.specs.Value.{listed, notWord, addWord, subWord, mulWord, divWord, remWord, sllWord, srlWord, sextWord, readValue, writeValue, iteValue, placeAt, slotAt}
+use Rattle.values.specs.Value.{listed, divWord, remWord, sextWord, readValue, writeValue, iteValue, placeAt, slotAt}
 use Rattle.values.specs.Eval.{slots, offset, nodeGiven, nodeStep, evalWords}
 use Rattle.values.specs.Frame.{Valued}
-use Rattle.values.proofs.ByKind.{at-const, at-state, at-not, at-bad, at-and, at-ext, at-eq, at-add, at-ite, at-sub, at-ult, at-mul, at-divu, at-rem, at-read, at-write, at-or, at-sll, at-srl, at-sext, place-access}
+use Rattle.values.proofs.ByKind.{at-const, at-state, at-op, at-bad, at-ext, at-ite, at-divu, at-rem, at-read, at-write, at-sext, place-access}
 use Rattle.values.proofs.Seen.{no-input, initial, reach, see-word, see-memory, see-same}
 use Rattle.values.proofs.Kept.{kept, worked, finished}
 
@@ -111,21 +113,17 @@ module _ (t l : List ℕ) (w i : ℕ) (x y : List ℕ) (j : ℕ) (pos : 1 ≤ w)
   by-rule (is-input e) = absurd (no-input d e free)
   by-rule (is-state e (inl z)) = absurd (omega (arith, initial d e free))
   by-rule (is-state e (inr z)) = at-state l d va y oa ob oc pz j e ∙ (same (aOf t (i + 1)) (initial d e free) (s .operands .a) z ∙ sym (at-state l d va x oa ob oc px j e))
-  by-rule (is-not e h z) = one (notWord (d .width)) (at-not l d va y oa ob oc pz j e) (at-not l d va x oa ob oc px j e) (ap usesA e) (omega arith)
+  by-rule (is-op o e z) =
+      at-op l d va y oa ob oc pz j o e
+      ∙ (op-same o (d .width)
+      (word (aOf t (i + 1)) (s .operands .a-used (ap usesA e ∙ op-a o)) (s .operands .a) (z .word))
+      (λ u. word (bOf t (i + 1)) (s .operands .b-used (ap usesB e ∙ (op-b o ∙ u))) (s .operands .b) (omega (arith, z .word, z .same u)))
+      ∙ sym (at-op l d va x oa ob oc px j o e))
   by-rule (is-bad e h z) = one (λ v. v) (at-bad l d va y oa ob oc pz j e) (at-bad l d va x oa ob oc px j e) (ap usesA e) (omega arith)
   by-rule (is-ext e z) = one (λ v. v) (at-ext l d va y oa ob oc pz j e) (at-ext l d va x oa ob oc px j e) (ap usesA e) (z .word)
   by-rule (is-sext e z) = one (sextWord va (d .width)) (at-sext l d va y oa ob oc pz j e) (at-sext l d va x oa ob oc px j e) (ap usesA e) (z .word)
-  by-rule (is-and e z) = two bitAnd (at-and l d va y oa ob oc pz j e) (at-and l d va x oa ob oc px j e) (ap usesA e) (ap usesB e) (omega arith) (omega arith)
-  by-rule (is-add e z) = two (addWord (d .width)) (at-add l d va y oa ob oc pz j e) (at-add l d va x oa ob oc px j e) (ap usesA e) (ap usesB e) (omega arith) (omega arith)
-  by-rule (is-sub e z) = two (subWord (d .width)) (at-sub l d va y oa ob oc pz j e) (at-sub l d va x oa ob oc px j e) (ap usesA e) (ap usesB e) (omega arith) (omega arith)
-  by-rule (is-mul e z) = two (mulWord (d .width)) (at-mul l d va y oa ob oc pz j e) (at-mul l d va x oa ob oc px j e) (ap usesA e) (ap usesB e) (omega arith) (omega arith)
   by-rule (is-divu e z) = two (divWord (d .width)) (at-divu l d va y oa ob oc pz j e) (at-divu l d va x oa ob oc px j e) (ap usesA e) (ap usesB e) (omega arith) (omega arith)
   by-rule (is-rem e z) = two remWord (at-rem l d va y oa ob oc pz j e) (at-rem l d va x oa ob oc px j e) (ap usesA e) (ap usesB e) (omega arith) (omega arith)
-  by-rule (is-or e z) = two bitOr (at-or l d va y oa ob oc pz j e) (at-or l d va x oa ob oc px j e) (ap usesA e) (ap usesB e) (omega arith) (omega arith)
-  by-rule (is-sll e z) = two (sllWord (d .width)) (at-sll l d va y oa ob oc pz j e) (at-sll l d va x oa ob oc px j e) (ap usesA e) (ap usesB e) (omega arith) (omega arith)
-  by-rule (is-srl e z) = two (srlWord (d .width)) (at-srl l d va y oa ob oc pz j e) (at-srl l d va x oa ob oc px j e) (ap usesA e) (ap usesB e) (omega arith) (omega arith)
-  by-rule (is-eq e z) = two (λ u v. bit (eqb u v)) (at-eq l d va y oa ob oc pz j e) (at-eq l d va x oa ob oc px j e) (ap usesA e) (ap usesB e) (z .word) (omega arith)
-  by-rule (is-ult e z) = two (λ u v. bit (ltb u v)) (at-ult l d va y oa ob oc pz j e) (at-ult l d va x oa ob oc px j e) (ap usesA e) (ap usesB e) (z .word) (omega arith)
   by-rule (is-ite e p q r) =
       at-ite l d va y oa ob oc pz j e
       ∙ (ite-alike

@@ -12,19 +12,22 @@ use lib.Dec.{eqb, ltb}
 use lib.ListN.{length, getD}
 use lib.Pow.{pow-pos, pow-mono}
 use borrow.Author.Tests.{ltb-true, ltb-false, not-false}
-use Rattle.loops.specs.Loop.{first, bit}
+use Rattle.loops.specs.Loop.{first, pick, bit}
 use Rattle.loops.proofs.Loop.{by-pick, first-below}
 use Rattle.table.specs.declared.Fault.the-variants.{Clear}
 use Rattle.table.specs.declared.Node.{Node}
 use Rattle.table.specs.Kind.{usesA, usesB, usesC}
 use Rattle.table.specs.Node.{nodes, nodeAt, widthOf, aOf, bOf, cOf}
 use Rattle.table.specs.Sheet.{tableFault}
-use Rattle.table.proofs.Whole.{Sound, Rule, Extended, is-const, is-input, is-state, is-not, is-bad, is-and, is-ext, is-eq, is-add, is-ite, is-sub, is-ult, is-mul, is-divu, is-rem, is-read, is-write, is-or, is-sll, is-srl, is-sext, within, each-sound}
+use Rattle.digits.specs.Op.{Op, opTwo, opOne, opWide, opValue}
+use Rattle.digits.proofs.Ops.{each-op, op-even, op-wide, op-some}
+use Rattle.table.proofs.Ops.{op-a, op-b}
+use Rattle.table.proofs.Whole.{Sound, Rule, Extended, is-const, is-input, is-state, is-op, is-bad, is-ext, is-ite, is-divu, is-rem, is-read, is-write, is-sext, within, each-sound}
 use Rattle.values.specs.declared.Answer.the-variants.{Done}
 use Rattle.values.specs.Value.{notWord, addWord, subWord, mulWord, divWord, remWord, sllWord, srlWord, sextWord, readValue, writeValue, iteValue, placeAt, slotAt}
 use Rattle.values.specs.Eval.{slots, offset, nodeGiven, slotWidth, slotBad, inputBad, evalWords}
 use Rattle.values.specs.Frame.{InRange, Made}
-use Rattle.values.proofs.ByKind.{at-const, at-state, at-not, at-bad, at-and, at-ext, at-eq, at-add, at-ite, at-sub, at-ult, at-mul, at-divu, at-rem, at-read, at-write, at-or, at-sll, at-srl, at-sext}
+use Rattle.values.proofs.ByKind.{at-const, at-state, at-op, at-bad, at-ext, at-ite, at-divu, at-rem, at-read, at-write, at-sext}
 use Rattle.values.proofs.Seen.{width-word, width-memory, no-input, initial, memory-own, see-word, see-memory, see-same}
 use Rattle.values.proofs.Kept.{finished}
 use Rattle.values.proofs.Local.{done-right}
@@ -65,6 +68,13 @@ sll-range v x y = by-pick (λ z. z < 2 ^ v) (ltb y v) (x * 2 ^ y % 2 ^ v) 0 (λ 
 srl-range : (v x y : ℕ) → x < 2 ^ v → srlWord v x y < 2 ^ v
 unfolding srlWord
 srl-range v x y h = by-pick (λ z. z < 2 ^ v) (ltb y v) (x / 2 ^ y) 0 (λ e. lt-of-le-of-lt (div-le-self x (2 ^ y)) h) (λ e. pow-pos v)
+
+op-range : (v x y : ℕ) → x < 2 ^ v → (o : Op) → (opTwo o ≡ true → y < 2 ^ v) → opValue o v x y < 2 ^ opWide o v
+unfolding opTwo opOne opValue pick
+op-range v x y h =
+    each-op (λ o. (opTwo o ≡ true → y < 2 ^ v) → opValue o v x y < 2 ^ opWide o v)
+    (λ g. not-range v x) (λ g. lt-of-le-of-lt (and-le-l x y) h) (λ g. or-lt v x y h (g refl)) (λ g. bit-range 1 (eqb x y) (omega arith))
+    (λ g. add-range v x y) (λ g. sub-range v x y) (λ g. bit-range 1 (ltb x y) (omega arith)) (λ g. mul-range v x y) (λ g. sll-range v x y) (λ g. srl-range v x y h)
 
 sext-range : (v w x : ℕ) → x < 2 ^ w → sextWord v w x < 2 ^ w
 unfolding sextWord
@@ -140,25 +150,16 @@ module _ (t l : List ℕ) (w i : ℕ) (x : List ℕ) (j : ℕ) (pos : 1 ≤ w) (
   by-rule (is-input e) = absurd (no-input d e free)
   by-rule (is-state e (inl z)) = absurd (omega (arith, initial d e free))
   by-rule (is-state e (inr z)) = rw (at-state l d va x oa ob oc px j e) (same (aOf t (i + 1)) (initial d e free) (s .operands .a) z)
-  by-rule (is-not e h z) = as-word _ (at-not l d va x oa ob oc px j e) h (not-range (d .width) (getD x oa 0))
+  by-rule (is-op o e z) =
+      as-word (opValue o (d .width) (getD x oa 0) (getD x ob 0)) (at-op l d va x oa ob oc px j o e) (omega (arith, z .wide, op-some o va (z .word)))
+      (rw (op-wide (d .width) va (getD x oa 0) (getD x ob 0) o (op-even o (z .wide)), z .wide)
+      (op-range va (getD x oa 0) (getD x ob 0) (word (aOf t (i + 1)) (s .operands .a-used (ap usesA e ∙ op-a o)) (s .operands .a) (z .word)) o
+      (λ u. rw (z .same u) at (word (bOf t (i + 1)) (s .operands .b-used (ap usesB e ∙ (op-b o ∙ u))) (s .operands .b) (omega (arith, z .word, z .same u))))))
   by-rule (is-bad e h z) = as-word _ (at-bad l d va x oa ob oc px j e) (omega arith) (left (ap usesA e) (omega arith) (z ∙ sym h))
   by-rule (is-ext e z) = as-word _ (at-ext l d va x oa ob oc px j e) (omega arith) (under (ap usesA e) z)
   by-rule (is-sext e z) = as-word _ (at-sext l d va x oa ob oc px j e) (omega arith) (sext-range va (d .width) (getD x oa 0) (under (ap usesA e) z))
-  by-rule (is-and e z) =
-      as-word _ (at-and l d va x oa ob oc px j e) (z .word)
-      (lt-of-le-of-lt (and-le-l (getD x oa 0) (getD x ob 0)) (left (ap usesA e) (z .word) (z .left)))
-  by-rule (is-add e z) = as-word _ (at-add l d va x oa ob oc px j e) (z .word) (add-range (d .width) (getD x oa 0) (getD x ob 0))
-  by-rule (is-sub e z) = as-word _ (at-sub l d va x oa ob oc px j e) (z .word) (sub-range (d .width) (getD x oa 0) (getD x ob 0))
-  by-rule (is-mul e z) = as-word _ (at-mul l d va x oa ob oc px j e) (z .word) (mul-range (d .width) (getD x oa 0) (getD x ob 0))
   by-rule (is-divu e z) = as-word _ (at-divu l d va x oa ob oc px j e) (z .word) (div-range (d .width) (getD x oa 0) (getD x ob 0) (left (ap usesA e) (z .word) (z .left)))
   by-rule (is-rem e z) = as-word _ (at-rem l d va x oa ob oc px j e) (z .word) (rem-range (d .width) (getD x oa 0) (getD x ob 0) (left (ap usesA e) (z .word) (z .left)))
-  by-rule (is-or e z) =
-      as-word _ (at-or l d va x oa ob oc px j e) (z .word)
-      (or-lt (d .width) (getD x oa 0) (getD x ob 0) (left (ap usesA e) (z .word) (z .left)) (right (ap usesB e) (z .word) (z .right)))
-  by-rule (is-sll e z) = as-word _ (at-sll l d va x oa ob oc px j e) (z .word) (sll-range (d .width) (getD x oa 0) (getD x ob 0))
-  by-rule (is-srl e z) = as-word _ (at-srl l d va x oa ob oc px j e) (z .word) (srl-range (d .width) (getD x oa 0) (getD x ob 0) (left (ap usesA e) (z .word) (z .left)))
-  by-rule (is-eq e z) = as-word _ (at-eq l d va x oa ob oc px j e) (omega arith) (bit-range (d .width) (eqb (getD x oa 0) (getD x ob 0)) (omega arith))
-  by-rule (is-ult e z) = as-word _ (at-ult l d va x oa ob oc px j e) (omega arith) (bit-range (d .width) (ltb (getD x oa 0) (getD x ob 0)) (omega arith))
   by-rule (is-ite e p q r) =
       rw (at-ite l d va x oa ob oc px j e)
       (ite-range (2 ^ slotWidth w d)

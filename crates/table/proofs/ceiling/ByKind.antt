@@ -1,15 +1,17 @@
 -- A node's ceiling, kind by kind.
-use mathlib.Core.Path.{_≡_}
+use mathlib.Core.Path.{_≡_, refl}
 use mathlib.Core.Bool.{true, false}
-use Prim.Native.Nat.{ℕ, _+_, _-_, _*_}
+use Prim.Native.Nat.{ℕ}
 use Rattle.loops.specs.Loop.{pick}
 use Rattle.loops.proofs.Loop.{pick-true, pick-false}
+use Rattle.digits.specs.Op.{Op, opNot, opAnd, opOr, opEq, opAdd, opSub, opUlt, opMul, opSll, opSrl, opOne, opGates}
 use Rattle.table.specs.declared.Node.{Node}
 use Rattle.table.specs.declared.Unit.the-variants.{Bit}
-use Rattle.table.specs.Kind.{CONST, STATE, NOT, BAD, AND, EXT, EQ, ADD, ITE, SUB, ULT, MUL, DIVU, REM, READ, WRITE, OR, SLL, SRL, divides}
+use Rattle.table.specs.Kind.{CONST, STATE, BAD, EXT, ITE, DIVU, REM, READ, WRITE, divides}
+use Rattle.table.specs.Op.{opKind}
 use Rattle.table.specs.Node.{given}
 use Rattle.table.specs.Size.{sizeOf}
-use Rattle.table.specs.Ceiling.{divGates, divConstraints, shiftGates, memoryGates, iteGates, plainGates, ceiling, constraintCeiling}
+use Rattle.table.specs.Ceiling.{divGates, divConstraints, memoryGates, iteGates, plainGates, ceiling, constraintCeiling}
 
 module _ (n w : ℕ) (d : Node) (x : ℕ) where
   pub top-given : given d ≡ true → ceiling n w d x ≡ sizeOf Bit n w (d .width)
@@ -24,45 +26,17 @@ module _ (n w : ℕ) (d : Node) (x : ℕ) where
   unfolding ceiling plainGates pick
   top-state e g = rw (g, e)
 
-  pub top-not : d .kind ≡ NOT → ceiling n w d x ≡ d .width
-  unfolding ceiling plainGates pick
-  top-not e = rw e
-
   pub top-bad : d .kind ≡ BAD → ceiling n w d x ≡ 0
   unfolding ceiling plainGates pick
   top-bad e = rw e
-
-  pub top-and : d .kind ≡ AND → ceiling n w d x ≡ d .width
-  unfolding ceiling plainGates pick
-  top-and e = rw e
 
   pub top-ext : d .kind ≡ EXT → ceiling n w d x ≡ 0
   unfolding ceiling plainGates pick
   top-ext e = rw e
 
-  pub top-eq : d .kind ≡ EQ → ceiling n w d x ≡ 3 * x - 1
-  unfolding ceiling plainGates pick
-  top-eq e = rw e
-
-  pub top-add : d .kind ≡ ADD → ceiling n w d x ≡ 3 * d .width
-  unfolding ceiling plainGates pick
-  top-add e = rw e
-
   pub top-ite : d .kind ≡ ITE → ceiling n w d x ≡ iteGates n w (d .width)
   unfolding ceiling plainGates pick
   top-ite e = rw e
-
-  pub top-sub : d .kind ≡ SUB → ceiling n w d x ≡ 4 * d .width
-  unfolding ceiling plainGates pick
-  top-sub e = rw e
-
-  pub top-ult : d .kind ≡ ULT → ceiling n w d x ≡ 4 * x + 1
-  unfolding ceiling plainGates pick
-  top-ult e = rw e
-
-  pub top-mul : d .kind ≡ MUL → ceiling n w d x ≡ 2 * d .width * (d .width + 1)
-  unfolding ceiling plainGates pick
-  top-mul e = rw e
 
   pub top-divu : d .kind ≡ DIVU → ceiling n w d x ≡ divGates (d .width)
   unfolding ceiling plainGates pick
@@ -80,17 +54,19 @@ module _ (n w : ℕ) (d : Node) (x : ℕ) where
   unfolding ceiling plainGates pick
   top-write e = rw e
 
-  pub top-or : d .kind ≡ OR → ceiling n w d x ≡ d .width
-  unfolding ceiling plainGates pick
-  top-or e = rw e
-
-  pub top-sll : d .kind ≡ SLL → ceiling n w d x ≡ shiftGates (d .width)
-  unfolding ceiling plainGates pick
-  top-sll e = rw e
-
-  pub top-srl : d .kind ≡ SRL → ceiling n w d x ≡ shiftGates (d .width)
-  unfolding ceiling plainGates pick
-  top-srl e = rw e
+  -- a plain operation, over operands that are as wide as it is where it is not one bit
+  pub top-op : (o : Op) → d .kind ≡ opKind o → (opOne o ≡ false → d .width ≡ x) → ceiling n w d x ≡ opGates o x
+  unfolding ceiling plainGates pick opOne opGates
+  top-op opNot e h = rw (e, h refl)
+  top-op opAnd e h = rw (e, h refl)
+  top-op opOr e h = rw (e, h refl)
+  top-op opEq e h = rw e
+  top-op opAdd e h = rw (e, h refl)
+  top-op opSub e h = rw (e, h refl)
+  top-op opUlt e h = rw e
+  top-op opMul e h = rw (e, h refl)
+  top-op opSll e h = rw (e, h refl)
+  top-op opSrl e h = rw (e, h refl)
 
 -- constraints
 module _ (d : Node) where
