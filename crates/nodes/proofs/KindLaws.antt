@@ -4,8 +4,7 @@ use mathlib.Core.List.{List}
 use mathlib.Core.Bool.{Bool, true}
 use Prim.Native.Nat.{ℕ, suc, _+_, _-_, _*_, _≤_, _<_}
 use native.Mathlib.Omega.{arith}
-use lib.ListN.{length, getD, set, length-set}
-use lib.Seq.{getD-set-same}
+use lib.ListN.{length, getD, length-set}
 use Rattle.loops.specs.Loop.{iter}
 use Rattle.loops.proofs.Loop.{iter-inv}
 use Rattle.netlist.specs.Record.{Room}
@@ -13,35 +12,24 @@ use Rattle.netlist.specs.Kind.{free}
 use Rattle.netlist.specs.Net.{Net}
 use Rattle.gates.specs.Made.{MadeBit, added, gateInputBit}
 use Rattle.gates.specs.Given.{GivenLaw}
-use Rattle.gates.specs.Law.{Grows, Formed, BitLaw}
+use Rattle.gates.specs.Law.{Grows, Formed}
 use Rattle.gates.proofs.Laws.{grows-refl, grows-weaken, grows-trans, room-back}
 use Rattle.gates.proofs.GivenLaws.{given-law}
-use Rattle.gates.proofs.FoldLaws.{not-cost}
 use Rattle.digits.specs.Digits.{Below, putDigits}
 use Rattle.digits.proofs.Numbers.{digit-lt}
 use Rattle.digits.proofs.Words as digits
 use Rattle.words.specs.declared.each.Bitwise.{Bitwise}
-use Rattle.words.specs.declared.each.Bitwise.the-variants.{Not, Choose}
-use Rattle.words.specs.declared.shift.Direction.{Direction}
+use Rattle.words.specs.declared.each.Bitwise.the-variants.{Choose}
 use Rattle.words.specs.Num.{blank}
 use Rattle.words.specs.Each.{Word, bitCost, bitBelow, eachBit, EachLaw}
-use Rattle.words.specs.Add.{addWords, addCost}
-use Rattle.words.specs.Sub.{subWords, subCost, ultWords, SubLaw}
 use Rattle.words.specs.Extend.{extended}
-use Rattle.words.specs.Eq.{eqWords}
-use Rattle.words.specs.Mul.{mulWords, mulCost, MulLaw}
-use Rattle.words.specs.Shift.{shiftWords, shiftCost, ShiftLaw}
+use Rattle.words.specs.Op.{WordLaw}
 use Rattle.words.proofs.NumLaws.{blank-long}
 use Rattle.words.proofs.Sums.{sum-most}
 use Rattle.words.proofs.EachLaws.{each-law, below-set, below-more}
-use Rattle.words.proofs.AddLaws.{AddLaw, add-law, cost-three}
 use Rattle.words.proofs.ExtendLaws.{extend-law}
-use Rattle.words.proofs.SubLaws.{sub-law, sub-four, ult-law}
-use Rattle.words.proofs.EqLaws.{eq-law, eq-three}
-use Rattle.words.proofs.MulLaws.{mul-law}
-use Rattle.words.proofs.ShiftLaws.{shift-law}
 use Rattle.memory.specs.Read.{readWords, ReadLaw}
-use Rattle.nodes.specs.Own.{asIs, fresh, ofChain, ofBit, inputStep}
+use Rattle.nodes.specs.Own.{asIs, fresh, inputStep}
 use Rattle.nodes.proofs.WordLaws.{WordMade}
 
 -- two words of v bits are below b
@@ -80,81 +68,20 @@ each-made op A B v c s small most =
       known = λ i. (ap (λ (t : Net). t .n) (h .known i), λ j l. h .knownAt j l (i j l));
     }
 
-pub not-made : (s : Net) (A : List ℕ) (v : ℕ) → v ≤ 65 → WordMade s (λ b. Below b A v) v (1 * v) (eachBit Not A A v (fresh s))
-unfolding bitBelow bitCost
-not-made s A v small = each-made Not A A v 1 s small (λ a b. not-cost a)
-
--- of two words, with one gate a bit
-pub pair-made : (op : Bitwise) → ((n a b : ℕ) → a < n → b < n → bitBelow op n a b) → ((a b : ℕ) → bitCost op a b ≤ 1) → (s : Net) (A B : List ℕ) (v : ℕ) → v ≤ 65
-    → WordMade s (Both A B v) v (1 * v) (eachBit op A B v (fresh s))
-pair-made op under most s A B v small =
-    let h = each-made op A B v 1 s small most in
-    record {
-      grows = h .grows;
-      formed = λ rm i f. h .formed rm (λ j l. under _ _ _ (i .0 j l) (i .1 j l)) f;
-      known = λ i. h .known (λ j l. under _ _ _ (i .0 j l) (i .1 j l));
-    }
-
 pub choose-made : (s : Net) (c : ℕ) (A B : List ℕ) (v : ℕ) → v ≤ 65
     → WordMade s (λ b. (i : ℕ) → i < v → (c < b) × (getD A i 0 < b) × (getD B i 0 < b)) v (3 * v) (eachBit (Choose c) A B v (fresh s))
 unfolding bitBelow bitCost
 choose-made s c A B v small = each-made (Choose c) A B v 3 s small (λ a b. omega arith)
 
--- one bit, as a word
-bit-made : {s : Net} {In : ℕ → Type 0} {v : (ℕ → Bool) → Bool} {j c : ℕ} {m : MadeBit} → j ≤ c → BitLaw s (In (s .n)) (In 2) v j m → WordMade s In 1 c (ofBit m)
-bit-made {s} {In} {v} {j} {c} {m} le h =
+-- a word by its law
+pub word-made : {v : ℕ} {A B : List ℕ} {s : Net} {two : Bool} {w c : ℕ} {f : ℕ → ℕ → ℕ} {t : Word} → WordLaw v A B s two w c f t
+    → WordMade s (λ b. Below b A v × (two ≡ true → Below b B v)) w c t
+word-made h =
     record {
-      grows = grows-weaken s (m .net) j c le (h .ext .grows);
-      formed = λ rm i f. let q : Formed (m .net) × (m .bit < m .net .n) = h .formed rm i f in (q .0, only (m .net .n) (q .1));
-      known = λ i. let q : (m .net ≡ s) × (m .bit < 2) = h .known i in (ap (λ (t : Net). t .n) (q .0), only 2 (q .1));
+      grows = h .ext .grows;
+      formed = λ rm i f. h .formed rm (i .0) (i .1) f;
+      known = λ i. let q = h .known (i .0) (i .1) in (ap (λ (t : Net). t .n) (q .0), q .1);
     }
-  where
-    only : (b : ℕ) → m .bit < b → Below b (set blank 0 (m .bit)) 1
-    only b h i l = let e : i ≡ 0 = omega arith in rw (e, getD-set-same blank 0 (m .bit) 0 (omega (arith, blank-long))) h
-
-module _ (s : Net) (A B : List ℕ) (v : ℕ) (small : v ≤ 64) where
-  pub eq-made : 1 ≤ v → WordMade s (Both A B v) 1 (3 * v - 1) (ofBit (eqWords v A B s))
-  eq-made big = bit-made (eq-three A B v big) (eq-law v A B s big (omega arith))
-
-  pub ult-made : WordMade s (Both A B v) 1 (4 * v + 1) (ofBit (ultWords v A B s))
-  ult-made = bit-made (omega arith) (ult-law v A B s small)
-
-  pub add-made : WordMade s (Both A B v) v (3 * v) (ofChain (addWords v A B (record { net = s; carry = 0; out = blank })))
-  add-made =
-      let h : AddLaw A B (record { net = s; carry = 0; out = blank }) v (addWords v A B (record { net = s; carry = 0; out = blank })) =
-      add-law A B (record { net = s; carry = 0; out = blank }) v (omega (arith, blank-long)) in
-      record {
-        grows = grows-weaken s _ (addCost A B v) (3 * v) (cost-three A B v) (h .ext .grows);
-        formed = λ rm i f. let q = h .formed rm (i .0) (i .1) (omega (arith, f .two)) f in (q .0, q .2);
-        known = λ i. let q = h .known (i .0) (i .1) (omega arith) in (ap (λ (t : Net). t .n) (q .0), q .2);
-      }
-
-  pub sub-made : WordMade s (Both A B v) v (4 * v) (ofChain (subWords v A B s blank))
-  sub-made =
-      let h : SubLaw v A B s blank (subWords v A B s blank) = sub-law v A B s blank (omega arith) (omega (arith, blank-long)) in
-      record {
-        grows = grows-weaken s _ (subCost A B v) (4 * v) (sub-four A B v) (h .ext .grows);
-        formed = λ rm i f. h .formed rm (i .0) (i .1) f;
-        known = λ i. let q = h .known (i .0) (i .1) in (ap (λ (t : Net). t .n) (q .0), q .1);
-      }
-
-  pub shift-made : (to : Direction) → 1 ≤ v → WordMade s (Both A B v) v (shiftCost v) (shiftWords to v A B (fresh s))
-  shift-made to big =
-      let h : ShiftLaw to v A B (fresh s) (shiftWords to v A B (fresh s)) = shift-law to v A B (fresh s) big small (omega (arith, blank-long)) in
-      record {
-        grows = h .ext .grows;
-        formed = λ rm i f. h .formed rm (i .0) (i .1) f;
-        known = λ i. let q = h .known (i .0) (i .1) in (ap (λ (t : Net). t .n) (q .0), q .1);
-      }
-
-  pub mul-made : WordMade s (Both A B v) v (2 * v * (v + 1)) (mulWords v A B (fresh s))
-  mul-made =
-      let h : MulLaw v A B (fresh s) (mulWords v A B (fresh s)) = mul-law v A B (fresh s) (omega arith) (omega (arith, blank-long)) in
-      record {
-        grows = grows-weaken s _ (mulCost v) (2 * v * (v + 1)) (omega arith) (h .ext .grows);
-        formed = λ rm i f. h .formed rm (i .0) (i .1) f;
-        known = λ i. let q = h .known (i .0) (i .1) in (ap (λ (t : Net). t .n) (q .0), q .1);
-      }
 
 -- a read, from its law
 pub read-made : (s : Net) (n w : ℕ) (addrs mem adr : List ℕ) → ReadLaw n w addrs mem adr (fresh s) (readWords n w addrs mem adr (fresh s))

@@ -1,4 +1,5 @@
 pub mod Places
+pub mod OpKinds
 pub mod ShapeLaws
 pub mod WordLaws
 pub mod KindLaws

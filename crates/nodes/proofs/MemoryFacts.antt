@@ -7,12 +7,13 @@ use Prim.Native.Nat.{ℕ, _+_, _*_, _-_, _≤_, _<_}
 use native.Mathlib.Omega.{arith}
 use lib.ListN.{length, getD, set, take, drop, length-drop}
 use lib.Seq.{length-take-le, take-all, drop-drop, getD-take, ext-getD, paste, paste-zero, paste-suc}
+use borrow.Author.Tests.{eqb-false}
 use Rattle.loops.specs.Loop.{iter}
 use Rattle.loops.proofs.Loop.{iter-inv}
 use Rattle.table.specs.declared.Node.{Node}
 use Rattle.table.specs.Kind.{READ, WRITE, usesA, usesB, usesC}
 use Rattle.table.specs.Node.{widthOf}
-use Rattle.table.proofs.Whole.{within, Sound, Rule, is-const, is-input, is-state, is-not, is-bad, is-and, is-ext, is-eq, is-add, is-ite, is-sub, is-ult, is-mul, is-divu, is-rem, is-read, is-write, is-or, is-sll, is-srl, is-sext}
+use Rattle.table.proofs.Whole.{within, Sound, Rule, is-const, is-input, is-state, is-op, is-bad, is-ext, is-ite, is-divu, is-rem, is-read, is-write, is-sext}
 use Rattle.netlist.specs.Net.{Net}
 use Rattle.gates.specs.declared.made.At.{At}
 use Rattle.gates.specs.Made.{Fits}
@@ -30,6 +31,7 @@ use Rattle.nodes.specs.Source.{Source, listed, nodeOf, wordsOf, wideOf, 
 use Rattle.nodes.specs.Own.{asIs, readWord, eachWord, writeOwn}
 use Rattle.nodes.specs.Place.{placed, reading, shareAt, writeAt}
 use Rattle.nodes.specs.Asked.{Makes, placeOf, coreAt, Turned}
+use Rattle.nodes.proofs.OpKinds.{op-plain}
 use Rattle.nodes.proofs.Places.{word-words, word-wide, memory-words, memory-wide, sound-of}
 use Rattle.nodes.proofs.MemoryLaws.{memory-bits, read-gates, write-gates}
 use Rattle.nodes.proofs.Facts.{place-within, offset, words-turn, share-turn, word-in, part-first}
@@ -99,22 +101,13 @@ neither (inr l) = record { reads = λ h. absurd (omega arith); writes = λ h. ab
 access : {w : ℕ} {d : Node} {va vb vc : ℕ} → Rule w d va vb vc → Access w d va vb vc
 access (is-read e a b c) = record { reads = λ _. (a, b, c); writes = λ h. absurd (omega arith) }
 access (is-write e a b c f) = record { reads = λ h. absurd (omega arith); writes = λ _. (a, b, c, f) }
+access {w} {d} (is-op o e s) = record { reads = λ h. absurd (eqb-false (d .kind) READ (op-plain o d e .reads) h); writes = λ h. absurd (eqb-false (d .kind) WRITE (op-plain o d e .writes) h) }
 access (is-const e a b) = neither (inl (omega arith))
 access (is-input e) = neither (inl (omega arith))
 access (is-state e a) = neither (inl (omega arith))
-access (is-not e a b) = neither (inl (omega arith))
 access (is-bad e a b) = neither (inl (omega arith))
-access (is-and e s) = neither (inl (omega arith))
 access (is-ext e s) = neither (inl (omega arith))
-access (is-eq e s) = neither (inl (omega arith))
-access (is-add e s) = neither (inl (omega arith))
 access (is-ite e a b c) = neither (inl (omega arith))
-access (is-sub e s) = neither (inl (omega arith))
-access (is-ult e s) = neither (inl (omega arith))
-access (is-mul e s) = neither (inl (omega arith))
-access (is-or e s) = neither (inr (omega arith))
-access (is-sll e s) = neither (inr (omega arith))
-access (is-srl e s) = neither (inr (omega arith))
 access (is-sext e s) = neither (inr (omega arith))
 access (is-divu e s) = neither (inl (omega arith))
 access (is-rem e s) = neither (inl (omega arith))

@@ -11,7 +11,7 @@ use Rattle.loops.proofs.Loop.{pick-true, pick-false}
 use Rattle.table.specs.declared.Node.{Node}
 use Rattle.table.specs.Kind.{ITE, READ, WRITE, SEXT, usesA, divides}
 use Rattle.table.specs.Node.{widthOf, given}
-use Rattle.table.proofs.Whole.{Sound, Rule, Extended, is-const, is-input, is-state, is-not, is-bad, is-and, is-ext, is-eq, is-add, is-ite, is-sub, is-ult, is-mul, is-divu, is-rem, is-read, is-write, is-or, is-sll, is-srl, is-sext}
+use Rattle.table.proofs.Whole.{Sound, Rule, Extended, is-const, is-input, is-state, is-op, is-bad, is-ext, is-ite, is-divu, is-rem, is-read, is-write, is-sext}
 use Rattle.values.proofs.Seen.{initial}
 use Rattle.netlist.specs.Net.{Net}
 use Rattle.visits.specs.Flow.{Core}
@@ -22,6 +22,7 @@ use Rattle.nodes.specs.Own.{shares, eachWord, inputWord, shareWord, abov
 use Rattle.nodes.specs.Asked.{Stands, Makes, Owns, Plain, placeOf, coreOf, Turned, Mapped}
 use Rattle.nodes.proofs.Places.{word-words, word-wide, sound-of, part-at}
 use Rattle.nodes.proofs.ShareLaws.{same-words}
+use Rattle.nodes.proofs.OpKinds.{op-plain}
 use Rattle.nodes.proofs.OwnKinds.{by-input, by-share, by-ite, by-divide, by-read, by-write, by-word}
 use Rattle.nodes.proofs.Facts.{word-in}
 use Rattle.nodes.proofs.WordFacts.{clash}
@@ -50,19 +51,10 @@ module _ (S : Source) (k : ℕ) (node : Sound (S .table) (S .word) k) (g : given
   shared (is-bad e v va) = record { some = node .operands .a-used (rw e); less = node .operands .a; words = same-words S k (nodeOf S k .a) (v ∙ sym va); top = λ z. omega arith }
   shared (is-ext e v) = longer (rw e) v
   shared (is-sext e v) = longer (rw e) v
+  shared (is-op o e v) = clash (sym h ∙ op-plain o (nodeOf S k) e .shares)
   shared (is-const e v i) = clash (sym h ∙ rw e)
   shared (is-input e) = clash (sym h ∙ rw e)
-  shared (is-not e v va) = clash (sym h ∙ rw e)
-  shared (is-and e v) = clash (sym h ∙ rw e)
-  shared (is-eq e v) = clash (sym h ∙ rw e)
-  shared (is-add e v) = clash (sym h ∙ rw e)
   shared (is-ite e va vb vc) = clash (sym h ∙ rw e)
-  shared (is-sub e v) = clash (sym h ∙ rw e)
-  shared (is-ult e v) = clash (sym h ∙ rw e)
-  shared (is-mul e v) = clash (sym h ∙ rw e)
-  shared (is-or e v) = clash (sym h ∙ rw e)
-  shared (is-sll e v) = clash (sym h ∙ rw e)
-  shared (is-srl e v) = clash (sym h ∙ rw e)
   shared (is-divu e v) = clash (sym h ∙ rw e)
   shared (is-rem e v) = clash (sym h ∙ rw e)
   shared (is-read e v va vb) = clash (sym h ∙ rw e)

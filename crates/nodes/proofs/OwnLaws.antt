@@ -11,18 +11,23 @@ use Rattle.loops.specs.Loop.{pick}
 use Rattle.loops.proofs.Loop.{by-pick}
 use Rattle.table.specs.declared.Fault.the-variants.{Clear}
 use Rattle.table.specs.Kind.{STATE, SEXT, usesA}
+use Rattle.table.specs.Op.{opKind}
+use Rattle.digits.specs.Op.{Op}
+use Rattle.digits.proofs.Ops.{op-some}
 use Rattle.table.specs.Node.{nodeAt, widthOf, aOf, bOf, cOf}
 use Rattle.table.specs.Sheet.{tableFault}
-use Rattle.table.proofs.Whole.{Sound, Rule, Extended, is-const, is-input, is-state, is-not, is-bad, is-and, is-ext, is-eq, is-add, is-ite, is-sub, is-ult, is-mul, is-divu, is-rem, is-read, is-write, is-or, is-sll, is-srl, is-sext}
+use Rattle.table.proofs.Whole.{Sound, Rule, OpSort, Extended, is-const, is-input, is-state, is-op, is-bad, is-ext, is-ite, is-divu, is-rem, is-read, is-write, is-sext}
 use Rattle.visits.specs.Flow.{Core}
 use Rattle.visits.specs.Claims.{Is, Step, OwnLaw}
 use Rattle.visits.proofs.Marks.{positive}
 use Rattle.nodes.specs.Source.{Source, nodeOf, wordsOf, totalOf}
 use Rattle.nodes.specs.Own.{eachWord, shareWord, aboveOf, ownStep}
 use Rattle.nodes.specs.Recipe.{recipe}
+use Rattle.nodes.proofs.OpKinds.{op-plain}
+use Rattle.nodes.proofs.OwnKinds.{by-word}
 use Rattle.nodes.proofs.Places.{word-words, word-wide, sound-of}
 use Rattle.nodes.proofs.WordLaws.{Reads}
-use Rattle.nodes.proofs.StepLaws.{reads-a, word-a, one-word, const-word, not-word, and-word, add-word, sub-word, mul-word, or-word, sll-word, srl-word, eq-word, ult-word}
+use Rattle.nodes.proofs.StepLaws.{reads-a, word-a, one-word, const-word, op-word}
 use Rattle.nodes.proofs.ShareLaws.{same-words, input-step, share-step, ite-step}
 use Rattle.nodes.proofs.MemoryLaws.{ReadsOwed, WritesOwed, read-step, write-step}
 use Rattle.nodes.proofs.DivisionLaws.{divide-step}
@@ -60,6 +65,12 @@ module _ (S : Source) (clear : tableFault (S .table) (S .addrs) (S .word) ≡ Cl
     extension u v =
         share-first (node .operands .a-used u) (word-words S k (omega (arith, v .word, v .wide)) ∙ sym (word-words S (nodeOf S k .a) (v .word))) (λ _. v .word)
 
+    -- a plain operation
+    operation : (o : Op) → nodeOf S k .kind ≡ opKind o → OpSort o (nodeOf S k .width) (widthOf (S .table) (nodeOf S k .a)) (widthOf (S .table) (nodeOf S k .b)) → Step (recipe S) k s (ownStep S k s)
+    operation o e v =
+        rw (by-word S k s (op-plain o (nodeOf S k) e))
+        (one-word S clear k is s mapped (omega (arith, v .wide, op-some o _ (v .word))) (λ i x t. op-word S clear k is s mapped i x t o e v))
+
     made : Rule (S .word) (nodeAt (S .table) k) (widthOf (S .table) (aOf (S .table) k)) (widthOf (S .table) (bOf (S .table) k)) (widthOf (S .table) (cOf (S .table) k))
         → Step (recipe S) k s (ownStep S k s)
     unfolding ownStep pick
@@ -68,19 +79,10 @@ module _ (S : Source) (clear : tableFault (S .table) (S .addrs) (S .word) ≡ Cl
     made (is-state e v) =
         rw e
         (by-pick (Step (recipe S) k s) (eqb (nodeOf S k .a) 0) _ _ (λ z. input-step S clear k is s mapped (rw (e, z))) (λ z. initial e (eqb-false (nodeOf S k .a) 0 z) v))
-    made (is-not e v va) = rw e (one-word S clear k is s mapped v (λ i x t. not-word S clear k is s mapped i x t e v va))
+    made (is-op o e v) = operation o e v
     made (is-bad e v va) = rw e (share-first (node .operands .a-used (rw e)) (same-words S k (nodeOf S k .a) (v ∙ sym va)) (λ z. omega arith))
-    made (is-and e v) = rw e (one-word S clear k is s mapped (v .word) (λ i x t. and-word S clear k is s mapped i x t v e))
     made (is-ext e v) = rw e (extension (rw e) v)
-    made (is-eq e v) = rw e (one-word S clear k is s mapped (omega (arith, v .one)) (λ i x t. eq-word S clear k is s mapped i x t v e))
-    made (is-add e v) = rw e (one-word S clear k is s mapped (v .word) (λ i x t. add-word S clear k is s mapped i x t v e))
     made (is-ite e va vb vc) = rw e (ite-step S clear k is s mapped e va vb vc)
-    made (is-sub e v) = rw e (one-word S clear k is s mapped (v .word) (λ i x t. sub-word S clear k is s mapped i x t v e))
-    made (is-ult e v) = rw e (one-word S clear k is s mapped (omega (arith, v .one)) (λ i x t. ult-word S clear k is s mapped i x t v e))
-    made (is-mul e v) = rw e (one-word S clear k is s mapped (v .word) (λ i x t. mul-word S clear k is s mapped i x t v e))
-    made (is-or e v) = rw e (one-word S clear k is s mapped (v .word) (λ i x t. or-word S clear k is s mapped i x t v e))
-    made (is-sll e v) = rw e (one-word S clear k is s mapped (v .word) (λ i x t. sll-word S clear k is s mapped i x t v e))
-    made (is-srl e v) = rw e (one-word S clear k is s mapped (v .word) (λ i x t. srl-word S clear k is s mapped i x t v e))
     made (is-sext e v) = rw e (extension (rw e) v)
     made (is-divu e v) = rw e (divide-step S clear k is s mapped (rw e) v)
     made (is-rem e v) = rw e (divide-step S clear k is s mapped (rw e) v)

@@ -1,37 +1,36 @@
 -- What the code's calls come to, path by path, over the definitions alone: a proof of the code cites each by its bare name in `search`.
-use mathlib.Core.Path.{_≡_, refl, ap, _∙_}
+use mathlib.Core.Path.{_≡_, refl, ap, sym, _∙_}
 use mathlib.Core.List.{List}
-use mathlib.Core.Bool.{Bool}
+use mathlib.Core.Bool.{Bool, false}
 use Prim.Native.Nat.{ℕ, _+_, _*_, _-_, _≤_}
 use native.Mathlib.Omega.{arith}
-use native.Mathlib.Nat.{mul-assoc}
 use lib.ListN.{length, getD, set, take, drop}
 use borrow.Author.Tests.{ne-eqb}
 use Rattle.loops.specs.Loop.{pick, iter}
 use Rattle.loops.proofs.Loop.{iter-inv}
 use Rattle.table.specs.declared.Node.{Node}
-use Rattle.table.specs.Kind.{CONST, NOT, AND, EQ, ADD, SUB, ULT, MUL, OR, SLL, SRL}
-use Rattle.table.specs.Ceiling.{shiftGates, ceiling}
-use Rattle.table.proofs.ceiling.ByKind.{top-mul}
+use Rattle.table.specs.Kind.{CONST, NOT, AND, EQ, ADD, SUB, ULT, MUL, OR, SLL, SRL, compares}
+use Rattle.table.specs.Op.{opKind, byOp}
+use Rattle.table.proofs.Ops.{op-compares}
+use Rattle.digits.specs.Op.{Op, opGates}
+use Rattle.table.specs.Ceiling.{ceiling}
+use Rattle.table.proofs.ceiling.ByKind.{top-op}
 use Rattle.netlist.specs.Net.{Net}
 use Rattle.gates.specs.declared.made.At.{At}
 use Rattle.gates.specs.Made.{MadeBit, netOf, madeOf, added, gateInputBit}
 use Rattle.words.specs.declared.each.Bitwise.the-variants as op
-use Rattle.words.specs.declared.shift.Direction.the-variants.{Left, Right}
 use Rattle.words.specs.Num.{filled, blank}
 use Rattle.words.specs.Each.{Word, wordOf, eachBit, putBits}
 use Rattle.digits.specs.Digits.{putDigits}
-use Rattle.words.specs.Add.{Chain, chainOf, addWords}
-use Rattle.words.specs.Sub.{subWords, ultWords}
-use Rattle.words.specs.Eq.{eqWords}
-use Rattle.words.specs.Mul.{mulWords, mulCost}
-use Rattle.words.specs.Shift.{shiftWords, shiftCost}
+use Rattle.words.specs.Add.{Chain, chainOf}
+use Rattle.words.specs.Op.{opInto}
 use Rattle.words.proofs.NumLaws.{blank-long}
 use Rattle.words.proofs.EachLaws.{choose-cost, each-ext}
 use Rattle.division.specs.Rows.{Checked, checkedOf}
 use Rattle.division.specs.Divide.{divideWords}
 use Rattle.nodes.specs.Own.{fresh, asIs, ofChain, inputStep, plainWord}
 use Rattle.nodes.specs.Place.{placed, inputs, choices, shareAt, inFront, plainAt, divideAt}
+use Rattle.nodes.proofs.OpKinds.{plain-is}
 
 -- word i of several lies among them
 pub word-next : (i w : ℕ) → (i + 1) * w ≡ i * w + w
@@ -102,49 +101,12 @@ module _ (d : Node) (v : ℕ) (A B : List ℕ) (s : Net) (x : Word) (out : List 
   unfolding plainWord pick
   plain-const e q = rw e (rw h at q)
 
-  pub plain-not : d .kind ≡ NOT → x ≡ eachBit op.Not A A v (asIs s out) → x ≡ plainWord d v A B s
-  unfolding plainWord pick
-  plain-not e q = rw e (rw h at q)
-
-  pub plain-and : d .kind ≡ AND → x ≡ eachBit op.And A B v (asIs s out) → x ≡ plainWord d v A B s
-  unfolding plainWord pick
-  plain-and e q = rw e (rw h at q)
-
-  pub plain-eq : d .kind ≡ EQ → x ≡ inFront out (eqWords v A B s) → x ≡ plainWord d v A B s
-  unfolding plainWord pick
-  plain-eq e q = rw e (rw h at q)
-
-  pub plain-add : d .kind ≡ ADD → x ≡ ofChain (addWords v A B (record { net = s; carry = 0; out = out })) → x ≡ plainWord d v A B s
-  unfolding plainWord pick
-  plain-add e q = rw e (rw h at q)
-
-  pub plain-sub : d .kind ≡ SUB → x ≡ ofChain (subWords v A B s out) → x ≡ plainWord d v A B s
-  unfolding plainWord pick
-  plain-sub e q = rw e (rw h at q)
-
-  pub plain-ult : d .kind ≡ ULT → x ≡ inFront out (ultWords v A B s) → x ≡ plainWord d v A B s
-  unfolding plainWord pick
-  plain-ult e q = rw e (rw h at q)
-
-  pub plain-mul : d .kind ≡ MUL → x ≡ mulWords v A B (asIs s out) → x ≡ plainWord d v A B s
-  unfolding plainWord pick
-  plain-mul e q = rw e (rw h at q)
-
-  pub plain-or : d .kind ≡ OR → x ≡ eachBit op.Or A B v (asIs s out) → x ≡ plainWord d v A B s
-  unfolding plainWord pick
-  plain-or e q = rw e (rw h at q)
-
-  pub plain-sll : d .kind ≡ SLL → x ≡ shiftWords Left v A B (asIs s out) → x ≡ plainWord d v A B s
-  unfolding plainWord pick
-  plain-sll e q = rw e (rw h at q)
-
-  pub plain-srl : d .kind ≡ SRL → x ≡ shiftWords Right v A B (asIs s out) → x ≡ plainWord d v A B s
-  unfolding plainWord pick
-  plain-srl e q = rw e (rw h at q)
+  pub plain-op : (o : Op) → d .kind ≡ opKind o → x ≡ opInto o v A B out s → x ≡ plainWord d v A B s
+  plain-op o e q = (rw h at q) ∙ sym (plain-is d v A B s o e)
 
   pub plain-none : (d .kind ≡ CONST → ⊥) → (d .kind ≡ NOT → ⊥) → (d .kind ≡ AND → ⊥) → (d .kind ≡ EQ → ⊥) → (d .kind ≡ ADD → ⊥) → (d .kind ≡ SUB → ⊥) → (d .kind ≡ ULT → ⊥)
       → (d .kind ≡ MUL → ⊥) → (d .kind ≡ OR → ⊥) → (d .kind ≡ SLL → ⊥) → (d .kind ≡ SRL → ⊥) → x ≡ asIs s out → x ≡ plainWord d v A B s
-  unfolding plainWord pick
+  unfolding plainWord byOp pick
   plain-none e1 e2 e3 e4 e5 e6 e7 e8 e9 e10 e11 q =
       rw (
         ne-eqb _ _ e1,
@@ -160,12 +122,8 @@ module _ (d : Node) (v : ℕ) (A B : List ℕ) (s : Net) (x : Word) (out : List 
         ne-eqb _ _ e11,
       ) (rw h at q)
 
-pub plain-mul-room : (d : Node) (v : ℕ) → d .kind ≡ MUL → d .width ≡ v → ceiling 0 0 d v ≡ mulCost v
-plain-mul-room d v e h = top-mul 0 0 d v e ∙ rw h (mul-assoc 2 v (v + 1))
-
-pub plain-shift-room : (d : Node) (v : ℕ) → ceiling 0 0 d v ≡ shiftGates (d .width) → d .width ≡ v → ceiling 0 0 d v ≡ shiftCost v
-unfolding shiftGates
-plain-shift-room d v e h = e ∙ ap shiftCost h
+pub plain-room : (d : Node) (v : ℕ) (o : Op) → d .kind ≡ opKind o → (compares (d .kind) ≡ false → d .width ≡ v) → ceiling 0 0 d v ≡ opGates o v
+plain-room d v o e h = top-op 0 0 d v o e (λ z. h (ap compares e ∙ (op-compares o ∙ z)))
 
 pub plain-path : (d : Node) (v a b to : ℕ) (g g′ word map map′ : List ℕ) (n n′ : At)
     → wordOf g′ n′ word ≡ plainWord d v (take (a + v - a) (drop a map)) (take (b + v - b) (drop b map)) (netOf g n)

@@ -32,7 +32,8 @@ use Rattle.nodes.proofs.ShareLaws.{same-wide, same-words}
 use Rattle.nodes.proofs.MeaningPlaces.{wide-range}
 use Rattle.nodes.proofs.Meaning.{Evaluated, right-says}
 use Rattle.nodes.proofs.RightWords.{Operable, OwnWord}
-use Rattle.nodes.proofs.RightOperands.{bit-one, num-one, sound, a-is, b-is, c-is, a-right, word-says, word-made}
+use Rattle.words.proofs.OpLaws.{num-one}
+use Rattle.nodes.proofs.RightOperands.{bit-one, sound, a-is, b-is, c-is, a-right, word-says, word-made}
 use Rattle.nodes.proofs.RightShare.{same-made}
 
 -- the chosen slot, by the condition's value

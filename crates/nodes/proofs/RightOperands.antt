@@ -14,7 +14,6 @@ use Rattle.netlist.specs.Net.{Assign}
 use Rattle.gates.specs.Law.{Ext}
 use Rattle.words.specs.Num.{num}
 use Rattle.words.specs.Each.{Word}
-use Rattle.words.proofs.NumLaws.{num-suc, num-none}
 use Rattle.visits.specs.Flow.{Core}
 use Rattle.visits.specs.Claims.{Is, Right, Considered}
 use Rattle.nodes.specs.Source.{Source, nodeOf, wordsOf, wideOf, wordAt, secondOf, thirdOf}
@@ -25,13 +24,10 @@ use Rattle.nodes.proofs.Places.{word-words, sound-of}
 use Rattle.nodes.proofs.Meaning.{Evaluated, workedOut, right-says, says-right}
 use Rattle.nodes.proofs.RightWords.{Operable, OwnWord, inputs-bound}
 
--- a truth value as a number, and the number of one bit
+-- a truth value as a number
 pub bit-one : (b : Bool) → eqb (bit b) 1 ≡ b
 bit-one true = refl
 bit-one false = refl
-
-pub num-one : (e : Assign) (bs : List ℕ) → num e bs 1 ≡ bit (e (getD bs 0 0))
-num-one e bs = let n : num e bs 1 ≡ num e bs 0 + 2 ^ 0 * bit (e (getD bs 0 0)) = num-suc e bs 0 in omega (arith, num-none e bs)
 
 -- a word's one slot
 pub slot-word : (S : Source) (x : List ℕ) (k : ℕ) → slotOf S x k 0 ≡ getD x (slotFrom S k) 0

@@ -9,7 +9,7 @@ use native.Mathlib.Omega.{arith}
 use Rattle.loops.proofs.Loop.{by-pick}
 use Rattle.table.specs.Kind.{STATE, ITE, divides}
 use Rattle.table.specs.Node.{widthOf, given}
-use Rattle.table.proofs.Whole.{Rule, is-const, is-input, is-state, is-not, is-bad, is-and, is-ext, is-eq, is-add, is-ite, is-sub, is-ult, is-mul, is-divu, is-rem, is-read, is-write, is-or, is-sll, is-srl, is-sext}
+use Rattle.table.proofs.Whole.{Rule, is-const, is-input, is-state, is-op, is-bad, is-ext, is-ite, is-divu, is-rem, is-read, is-write, is-sext}
 use Rattle.values.proofs.Seen.{initial}
 use Rattle.netlist.specs.Bit.{isKnown}
 use Rattle.words.specs.Each.{Word}
@@ -21,10 +21,11 @@ use Rattle.nodes.specs.Recipe.{recipe}
 use Rattle.nodes.specs.Meaning.{meaning}
 use Rattle.nodes.proofs.MemoryLaws.{ReadsOwed, WritesOwed}
 use Rattle.nodes.proofs.Places.{sound-of}
+use Rattle.nodes.proofs.OpKinds.{op-plain}
 use Rattle.nodes.proofs.OwnKinds.{by-input, by-share, by-ite, by-divide, by-read, by-write, by-word}
 use Rattle.nodes.proofs.Meaning.{Evaluated}
 use Rattle.nodes.proofs.RightWords.{OwnWord, words-right}
-use Rattle.nodes.proofs.RightPlain.{const-made, not-made, and-made, eq-made, add-made, sub-made, ult-made, mul-made, or-made, sll-made, srl-made}
+use Rattle.nodes.proofs.RightPlain.{const-made, op-made}
 use Rattle.nodes.proofs.RightInput.{input-made}
 use Rattle.nodes.proofs.RightShare.{state-made, bad-made, ext-made, sext-made}
 use Rattle.nodes.proofs.RightChoice.{known-made, choose-made}
@@ -62,19 +63,10 @@ module _ {S : Source} {x : List ℕ} (v : Evaluated S x) (reads : ReadsOwed S) (
   by-rule (is-const e h g) = each (wordOwn S k) (by-word S k s (record { given = rw e; shares = rw e; chooses = rw e; divides = rw e; reads = rw e; writes = rw e })) (λ i t lt. const-made v (ready .is) (s .map) i t lt e h g)
   by-rule (is-input e) = given-right (rw e)
   by-rule (is-state e z) = state-right e z (given (nodeOf S k)) refl
-  by-rule (is-not e h z) = each (wordOwn S k) (by-word S k s (record { given = rw e; shares = rw e; chooses = rw e; divides = rw e; reads = rw e; writes = rw e })) (λ i t lt. not-made v (ready .is) (s .map) i t lt e h z)
+  by-rule (is-op o e z) = each (wordOwn S k) (by-word S k s (op-plain o (nodeOf S k) e)) (λ i t lt. op-made v (ready .is) (s .map) i t lt o e z)
   by-rule (is-bad e h z) = each (shareWord S (aboveOf S (s .map) k) (nodeOf S k .a)) (by-share S k s (rw e) (rw e)) (λ i t lt. bad-made v (ready .is) (s .map) i t lt e h z)
-  by-rule (is-and e z) = each (wordOwn S k) (by-word S k s (record { given = rw e; shares = rw e; chooses = rw e; divides = rw e; reads = rw e; writes = rw e })) (λ i t lt. and-made v (ready .is) (s .map) i t lt e z)
   by-rule (is-ext e z) = each (shareWord S (aboveOf S (s .map) k) (nodeOf S k .a)) (by-share S k s (rw e) (rw e)) (λ i t lt. ext-made v (ready .is) (s .map) i t lt z e)
-  by-rule (is-eq e z) = each (wordOwn S k) (by-word S k s (record { given = rw e; shares = rw e; chooses = rw e; divides = rw e; reads = rw e; writes = rw e })) (λ i t lt. eq-made v (ready .is) (s .map) i t lt e z)
-  by-rule (is-add e z) = each (wordOwn S k) (by-word S k s (record { given = rw e; shares = rw e; chooses = rw e; divides = rw e; reads = rw e; writes = rw e })) (λ i t lt. add-made v (ready .is) (s .map) i t lt e z)
   by-rule (is-ite e p q r) = ite-right e p q r
-  by-rule (is-sub e z) = each (wordOwn S k) (by-word S k s (record { given = rw e; shares = rw e; chooses = rw e; divides = rw e; reads = rw e; writes = rw e })) (λ i t lt. sub-made v (ready .is) (s .map) i t lt e z)
-  by-rule (is-ult e z) = each (wordOwn S k) (by-word S k s (record { given = rw e; shares = rw e; chooses = rw e; divides = rw e; reads = rw e; writes = rw e })) (λ i t lt. ult-made v (ready .is) (s .map) i t lt e z)
-  by-rule (is-mul e z) = each (wordOwn S k) (by-word S k s (record { given = rw e; shares = rw e; chooses = rw e; divides = rw e; reads = rw e; writes = rw e })) (λ i t lt. mul-made v (ready .is) (s .map) i t lt e z)
-  by-rule (is-or e z) = each (wordOwn S k) (by-word S k s (record { given = rw e; shares = rw e; chooses = rw e; divides = rw e; reads = rw e; writes = rw e })) (λ i t lt. or-made v (ready .is) (s .map) i t lt e z)
-  by-rule (is-sll e z) = each (wordOwn S k) (by-word S k s (record { given = rw e; shares = rw e; chooses = rw e; divides = rw e; reads = rw e; writes = rw e })) (λ i t lt. sll-made v (ready .is) (s .map) i t lt e z)
-  by-rule (is-srl e z) = each (wordOwn S k) (by-word S k s (record { given = rw e; shares = rw e; chooses = rw e; divides = rw e; reads = rw e; writes = rw e })) (λ i t lt. srl-made v (ready .is) (s .map) i t lt e z)
   by-rule (is-sext e z) = each (shareWord S (aboveOf S (s .map) k) (nodeOf S k .a)) (by-share S k s (rw e) (rw e)) (λ i t lt. sext-made v (ready .is) (s .map) i t lt z e)
   by-rule (is-divu e z) = rw (by-divide S k s (ap divides e)) (division-right v (ap divides e) z s ready)
   by-rule (is-rem e z) = rw (by-divide S k s (ap divides e)) (division-right v (ap divides e) z s ready)

@@ -1,12 +1,12 @@
 -- The recipe of a table without fault has the shape that the visits ask.
-use mathlib.Core.Path.{_≡_, refl, ap}
+use mathlib.Core.Path.{_≡_, refl, ap, sym, _∙_}
 use mathlib.Core.List.{List}
 use mathlib.Core.Bool.{Bool, true, false, _&&_, false≢true}
 use Prim.Native.Nat.{ℕ, _+_, _*_, _≤_, _<_}
 use native.Mathlib.Omega.{arith}
 use lib.Dec.{eqb}
 use lib.ListN.{getD}
-use borrow.Author.Tests.{eqb-true, ne-eqb}
+use borrow.Author.Tests.{eqb-true, eqb-false, ne-eqb}
 use Rattle.loops.specs.Loop.{pick}
 use Rattle.loops.proofs.Loop.{by-pick, either}
 use Rattle.table.specs.declared.Node.{Node}
@@ -14,11 +14,12 @@ use Rattle.table.specs.declared.Fault.the-variants.{Clear}
 use Rattle.table.specs.Kind.{ITE, DIVU, REM, divides, usesB}
 use Rattle.table.specs.Node.{widthOf}
 use Rattle.table.specs.Sheet.{tableFault}
-use Rattle.table.proofs.Whole.{Sound, Rule, Even, is-const, is-input, is-state, is-not, is-bad, is-and, is-ext, is-eq, is-add, is-ite, is-sub, is-ult, is-mul, is-divu, is-rem, is-read, is-write, is-or, is-sll, is-srl, is-sext}
+use Rattle.table.proofs.Whole.{Sound, Rule, Even, is-const, is-input, is-state, is-op, is-bad, is-ext, is-ite, is-divu, is-rem, is-read, is-write, is-sext}
 use Rattle.netlist.specs.Bit.{isKnown}
 use Rattle.visits.specs.Claims.{Is, Same, Shape}
 use Rattle.nodes.specs.Source.{Source, nodeOf, wideOf, bitsOf, offOf, conditionOf, firstOf, secondOf, thirdOf, wordAt}
 use Rattle.nodes.specs.Recipe.{recipe}
+use Rattle.nodes.proofs.OpKinds.{op-plain}
 use Rattle.nodes.proofs.Places.{no-bits, off-apart, off-inside, sound-of, part-at, bits-words, word-words, word-wide}
 
 -- a division is a word over two of its width
@@ -26,19 +27,10 @@ pub divided : {w : ℕ} {d : Node} {va vb vc : ℕ} → Rule w d va vb vc → di
 divided (is-const e a b) h = absurd (false≢true (rw e at h))
 divided (is-input e) h = absurd (false≢true (rw e at h))
 divided (is-state e a) h = absurd (false≢true (rw e at h))
-divided (is-not e a b) h = absurd (false≢true (rw e at h))
+divided {w} {d} (is-op o e s) h = absurd (false≢true (sym (op-plain o d e .divides) ∙ h))
 divided (is-bad e a b) h = absurd (false≢true (rw e at h))
-divided (is-and e s) h = s
 divided (is-ext e s) h = absurd (false≢true (rw e at h))
-divided (is-eq e s) h = absurd (false≢true (rw e at h))
-divided (is-add e s) h = s
 divided (is-ite e a b c) h = absurd (false≢true (rw e at h))
-divided (is-sub e s) h = s
-divided (is-ult e s) h = absurd (false≢true (rw e at h))
-divided (is-mul e s) h = s
-divided (is-or e s) h = s
-divided (is-sll e s) h = s
-divided (is-srl e s) h = s
 divided (is-sext e s) h = absurd (false≢true (rw e at h))
 divided (is-divu e s) h = s
 divided (is-rem e s) h = s
@@ -54,18 +46,9 @@ chosen (is-ite e a b c) h = (a, b, c)
 chosen (is-const e a b) h = absurd (omega arith)
 chosen (is-input e) h = absurd (omega arith)
 chosen (is-state e a) h = absurd (omega arith)
-chosen (is-not e a b) h = absurd (omega arith)
+chosen {w} {d} (is-op o e s) h = absurd (eqb-false (d .kind) ITE (op-plain o d e .chooses) h)
 chosen (is-bad e a b) h = absurd (omega arith)
-chosen (is-and e s) h = absurd (omega arith)
 chosen (is-ext e s) h = absurd (omega arith)
-chosen (is-eq e s) h = absurd (omega arith)
-chosen (is-add e s) h = absurd (omega arith)
-chosen (is-sub e s) h = absurd (omega arith)
-chosen (is-ult e s) h = absurd (omega arith)
-chosen (is-mul e s) h = absurd (omega arith)
-chosen (is-or e s) h = absurd (omega arith)
-chosen (is-sll e s) h = absurd (omega arith)
-chosen (is-srl e s) h = absurd (omega arith)
 chosen (is-sext e s) h = absurd (omega arith)
 chosen (is-divu e s) h = absurd (omega arith)
 chosen (is-rem e s) h = absurd (omega arith)

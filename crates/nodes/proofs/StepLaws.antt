@@ -6,34 +6,34 @@ use Prim.Native.Nat.{ℕ, _+_, _-_, _*_, _≤_, _<_}
 use native.Mathlib.Omega.{arith}
 use lib.Dec.{eqb, leb}
 use lib.ListN.{length}
-use borrow.Author.Tests.{eqb-true, le-leb, leb-true}
+use borrow.Author.Tests.{eqb-true, eqb-false, le-leb, leb-true}
 use Rattle.loops.specs.Loop.{pick}
 use Rattle.loops.proofs.Loop.{by-pick, both, either}
 use Rattle.table.specs.declared.Fault.the-variants.{Clear}
-use Rattle.table.specs.Kind.{CONST, NOT, AND, EQ, ADD, ITE, SUB, ULT, MUL, OR, SLL, SRL, SEXT, usesA, usesB, usesC}
+use Rattle.table.specs.Kind.{CONST, NOT, AND, EQ, ITE, SEXT, usesA, usesB, usesC}
+use Rattle.table.specs.Op.{opKind}
 use Rattle.table.specs.Node.{widthOf}
-use Rattle.table.specs.Ceiling.{shiftGates}
 use Rattle.table.specs.Sheet.{tableFault}
-use Rattle.table.proofs.Whole.{Sound, Even, Compared, within, fine}
-use Rattle.table.proofs.ceiling.ByKind.{top-not, top-and, top-eq, top-add, top-sub, top-ult, top-mul, top-or, top-sll, top-srl}
+use Rattle.table.proofs.Whole.{Sound, OpSort, within, fine}
+use Rattle.table.proofs.Ops.{op-a, op-b}
+use Rattle.table.proofs.ceiling.ByKind.{top-op}
+use Rattle.digits.specs.Op.{Op, opTwo, opWide, opGates}
+use Rattle.digits.proofs.Ops.{op-even, op-some}
 use Rattle.digits.specs.Digits.{Below}
 use Rattle.netlist.specs.Net.{Net}
 use Rattle.gates.proofs.Laws.{grows-weaken}
-use Rattle.words.specs.declared.each.Bitwise.{Bitwise}
-use Rattle.words.specs.declared.each.Bitwise.the-variants.{And, Or}
-use Rattle.words.specs.declared.shift.Direction.{Direction}
-use Rattle.words.specs.declared.shift.Direction.the-variants.{Left, Right}
-use Rattle.words.specs.Each.{Word, bitBelow, bitCost, eachBit}
-use Rattle.words.specs.Shift.{shiftWords, shiftCost}
+use Rattle.words.specs.Each.{Word}
+use Rattle.words.proofs.OpLaws.{op-law}
 use Rattle.visits.specs.Flow.{Core}
 use Rattle.visits.specs.Claims.{Is, Under, Step}
 use Rattle.nodes.specs.Source.{Source, nodeOf, wordsOf, wideOf, offOf, totalOf, gatesOf, wordAt}
-use Rattle.nodes.specs.Own.{fresh, eachWord, plainWord, wordOwn}
+use Rattle.nodes.specs.Own.{eachWord, plainWord, wordOwn}
 use Rattle.nodes.specs.Recipe.{recipe}
+use Rattle.nodes.proofs.OpKinds.{op-plain, plain-is}
 use Rattle.nodes.proofs.Places.{Till, bits-words, off-inside, word-words, word-wide, sound-of, gates-of, word-below}
 use Rattle.nodes.proofs.ShapeLaws.{second-else, third-else}
 use Rattle.nodes.proofs.WordLaws.{WordMade, WordOwes, Reads, made-owes, each-step}
-use Rattle.nodes.proofs.KindLaws.{Both, Nothing, const-made, not-made, pair-made, shift-made, eq-made, ult-made, add-made, sub-made, mul-made}
+use Rattle.nodes.proofs.KindLaws.{Both, Nothing, const-made, word-made}
 
 -- a word's width and its gates said otherwise
 pub made-as : {s : Net} {In : ℕ → Type 0} {y : Word} {v w c d : ℕ} → v ≡ w → c ≤ d → WordMade s In v c y → WordMade s In w d y
@@ -141,108 +141,22 @@ module _ (S : Source) (clear : tableFault (S .table) (S .addrs) (S .word) ≡ Cl
     abbrev Wide : ℕ
     Wide = wideOf S A
 
-    -- the operands are as wide as the node
-    even-wide : Even (nodeOf S k .width) (widthOf (S .table) A) (widthOf (S .table) B) → Wide ≡ wideOf S k
-    even-wide v = word-wide S A (omega (arith, v .word, v .left)) ∙ v .left ∙ sym (word-wide S k (v .word))
+    -- a plain operation
+    module _ (o : Op) (e : nodeOf S k .kind ≡ opKind o) (z : OpSort o (nodeOf S k .width) (widthOf (S .table) A) (widthOf (S .table) B)) where
+      wide-here : Wide ≡ widthOf (S .table) A
+      wide-here = word-wide S A (z .word)
 
-    pub not-word : nodeOf S k .kind ≡ NOT → 1 ≤ nodeOf S k .width → widthOf (S .table) A ≡ nodeOf S k .width → Owes
-    unfolding wordOwn plainWord pick
-    not-word e word same =
-        let w : Wide ≡ wideOf S k = word-wide S A (omega arith) ∙ same ∙ sym (word-wide S k word) in
-        let g : gatesOf S k ≡ nodeOf S k .width = gates-of S k (is .low) ∙ top-not _ _ (nodeOf S k) _ e in
-        rw e
-        (made-owes {s = s} {In = λ b. Below b X Wide} (made-as w (omega (arith, word-wide S A (omega arith))) (not-made (x .net) X Wide (omega (arith, wide-small S clear A))))
-        (λ b o. word-a b (x .map) (rw e) (omega arith) till o))
+      second : (b : ℕ) → Reads S k s b → opTwo o ≡ true → Below b Y Wide
+      second b r u =
+          let w : wideOf S B ≡ Wide = word-wide S B (omega (arith, z .word, z .same u)) ∙ z .same u ∙ sym wide-here in
+          λ i l. word-b b (x .map) (ap usesB e ∙ (op-b o ∙ u)) (eqb-false (nodeOf S k .kind) ITE (op-plain o (nodeOf S k) e .chooses)) (omega (arith, z .word, z .same u)) till r i (omega arith)
 
-    -- two words of the node's width
-    module _ (v : Even (nodeOf S k .width) (widthOf (S .table) A) (widthOf (S .table) B)) where
-      even-both : (b : ℕ) → usesB (nodeOf S k .kind) ≡ true → (nodeOf S k .kind ≡ ITE → ⊥) → Reads S k s b → Both X Y Wide b
-      even-both b u ne o = both-words b (x .map) u ne (omega (arith, v .word, v .left)) (v .right ∙ sym (v .left)) till o
-
-      wide-here : Wide ≡ nodeOf S k .width
-      wide-here = word-wide S A (omega (arith, v .word, v .left)) ∙ v .left
-
-      -- bit by bit
-      pair-owes : (op : Bitwise) → ((n a b : ℕ) → a < n → b < n → bitBelow op n a b) → ((a b : ℕ) → bitCost op a b ≤ 1) → gatesOf S k ≡ nodeOf S k .width → usesB (nodeOf S k .kind) ≡ true
-          → (nodeOf S k .kind ≡ ITE → ⊥) → WordOwes S k s x (gatesOf S k) (eachBit op X Y Wide (fresh (x .net)))
-      pair-owes op under most g u ne =
-          made-owes {s = s} {In = Both X Y Wide} (made-as (even-wide v) (omega (arith, wide-here)) (pair-made op under most (x .net) X Y Wide (omega (arith, wide-small S clear A))))
-          (λ b o. even-both b u ne o)
-
-      shift-owes : (to : Direction) → gatesOf S k ≡ shiftGates (nodeOf S k .width) → usesB (nodeOf S k .kind) ≡ true → (nodeOf S k .kind ≡ ITE → ⊥)
-          → WordOwes S k s x (gatesOf S k) (shiftWords to Wide X Y (fresh (x .net)))
-      unfolding shiftGates
-      shift-owes to g u ne =
-          let c : shiftCost Wide ≡ shiftCost (nodeOf S k .width) = ap shiftCost wide-here in
-          made-owes {s = s} {In = Both X Y Wide}
-          (made-as (even-wide v) (omega arith) (shift-made (x .net) X Y Wide (wide-small S clear A) to (omega (arith, wide-here, v .word))))
-          (λ b o. even-both b u ne o)
-
-      pub and-word : nodeOf S k .kind ≡ AND → Owes
-      unfolding wordOwn plainWord pick bitBelow bitCost
-      and-word e =
-          let g : gatesOf S k ≡ nodeOf S k .width = gates-of S k (is .low) ∙ top-and _ _ (nodeOf S k) _ e in
-          rw e (pair-owes And (λ n a b p q. (p, q)) (λ a b. omega arith) g (rw e) (λ z. omega arith))
-
-      pub or-word : nodeOf S k .kind ≡ OR → Owes
-      unfolding wordOwn plainWord pick bitBelow bitCost
-      or-word e =
-          let g : gatesOf S k ≡ nodeOf S k .width = gates-of S k (is .low) ∙ top-or _ _ (nodeOf S k) _ e in
-          rw e (pair-owes Or (λ n a b p q. (p, q)) (λ a b. omega arith) g (rw e) (λ z. omega arith))
-
-      pub sll-word : nodeOf S k .kind ≡ SLL → Owes
-      unfolding wordOwn plainWord pick
-      sll-word e = rw e (shift-owes Left (gates-of S k (is .low) ∙ top-sll _ _ (nodeOf S k) _ e) (rw e) (λ z. omega arith))
-
-      pub srl-word : nodeOf S k .kind ≡ SRL → Owes
-      unfolding wordOwn plainWord pick
-      srl-word e = rw e (shift-owes Right (gates-of S k (is .low) ∙ top-srl _ _ (nodeOf S k) _ e) (rw e) (λ z. omega arith))
-
-      pub add-word : nodeOf S k .kind ≡ ADD → Owes
-      unfolding wordOwn plainWord pick
-      add-word e =
-          let g : gatesOf S k ≡ 3 * nodeOf S k .width = gates-of S k (is .low) ∙ top-add _ _ (nodeOf S k) _ e in
-          rw e
-          (made-owes {s = s} {In = Both X Y Wide} (made-as (even-wide v) (omega (arith, wide-here)) (add-made (x .net) X Y Wide (wide-small S clear A)))
-          (λ b o. even-both b (rw e) (λ z. omega arith) o))
-
-      pub sub-word : nodeOf S k .kind ≡ SUB → Owes
-      unfolding wordOwn plainWord pick
-      sub-word e =
-          let g : gatesOf S k ≡ 4 * nodeOf S k .width = gates-of S k (is .low) ∙ top-sub _ _ (nodeOf S k) _ e in
-          rw e
-          (made-owes {s = s} {In = Both X Y Wide} (made-as (even-wide v) (omega (arith, wide-here)) (sub-made (x .net) X Y Wide (wide-small S clear A)))
-          (λ b o. even-both b (rw e) (λ z. omega arith) o))
-
-      pub mul-word : nodeOf S k .kind ≡ MUL → Owes
-      unfolding wordOwn plainWord pick
-      mul-word e =
-          let g : gatesOf S k ≡ 2 * nodeOf S k .width * (nodeOf S k .width + 1) = gates-of S k (is .low) ∙ top-mul _ _ (nodeOf S k) _ e in
-          let c : 2 * Wide * (Wide + 1) ≡ 2 * nodeOf S k .width * (nodeOf S k .width + 1) = ap (λ (n : ℕ). 2 * n * (n + 1)) wide-here in
-          rw e
-          (made-owes {s = s} {In = Both X Y Wide} (made-as (even-wide v) (omega arith) (mul-made (x .net) X Y Wide (wide-small S clear A)))
-          (λ b o. even-both b (rw e) (λ z. omega arith) o))
-
-    -- one bit of two words of one width
-    module _ (v : Compared (nodeOf S k .width) (widthOf (S .table) A) (widthOf (S .table) B)) where
-      one-wide : 1 ≡ wideOf S k
-      one-wide = sym (v .one) ∙ sym (word-wide S k (omega (arith, v .one)))
-
-      of-one : Wide ≡ widthOf (S .table) A
-      of-one = word-wide S A (v .word)
-
-      pub eq-word : nodeOf S k .kind ≡ EQ → Owes
-      unfolding wordOwn plainWord pick
-      eq-word e =
-          let g : gatesOf S k ≡ 3 * widthOf (S .table) A - 1 = gates-of S k (is .low) ∙ top-eq _ _ (nodeOf S k) _ e in
-          rw e
-          (made-owes {s = s} {In = Both X Y Wide} (made-as one-wide (omega (arith, of-one)) (eq-made (x .net) X Y Wide (wide-small S clear A) (omega (arith, of-one, v .word))))
-          (λ b o. both-words b (x .map) (rw e) (λ z. omega arith) (v .word) (v .same) till o))
-
-      pub ult-word : nodeOf S k .kind ≡ ULT → Owes
-      unfolding wordOwn plainWord pick
-      ult-word e =
-          let g : gatesOf S k ≡ 4 * widthOf (S .table) A + 1 = gates-of S k (is .low) ∙ top-ult _ _ (nodeOf S k) _ e in
-          rw e
-          (made-owes {s = s} {In = Both X Y Wide} (made-as one-wide (omega (arith, of-one)) (ult-made (x .net) X Y Wide (wide-small S clear A)))
-          (λ b o. both-words b (x .map) (rw e) (λ z. omega arith) (v .word) (v .same) till o))
+      pub op-word : Owes
+      unfolding wordOwn
+      op-word =
+          let g : gatesOf S k ≡ opGates o Wide = gates-of S k (is .low) ∙ (top-op _ _ (nodeOf S k) _ o e (op-even o (z .wide)) ∙ ap (opGates o) (sym wide-here)) in
+          let w : opWide o Wide ≡ wideOf S k = ap (opWide o) wide-here ∙ (sym (z .wide) ∙ sym (word-wide S k (omega (arith, z .wide, op-some o _ (z .word))))) in
+          rw (plain-is (nodeOf S k) Wide X Y (x .net) o e)
+          (made-owes {s = s} {In = λ b. Below b X Wide × (opTwo o ≡ true → Below b Y Wide)}
+          (made-as w (omega arith) (word-made (op-law Wide X Y (x .net) (omega (arith, wide-here, z .word)) (wide-small S clear A) o)))
+          (λ b r. (word-a b (x .map) (ap usesA e ∙ op-a o) (z .word) till r, second b r)))

@@ -13,15 +13,19 @@ use Rattle.table.specs.declared.Node.{Node}
 use Rattle.table.specs.Kind.{CONST, NOT, usesA, usesB, compares}
 use Rattle.table.specs.Node.{widthOf}
 use Rattle.table.specs.Ceiling.{ceiling}
-use Rattle.table.proofs.Whole.{Sound, Rule, is-const, is-input, is-state, is-not, is-bad, is-and, is-ext, is-eq, is-add, is-ite, is-sub, is-ult, is-mul, is-divu, is-rem, is-read, is-write, is-or, is-sll, is-srl, is-sext}
-use Rattle.table.proofs.ceiling.ByKind.{top-not, top-and, top-eq, top-add, top-sub, top-ult, top-mul, top-or, top-sll, top-srl}
+use Rattle.table.proofs.Whole.{Sound, Rule, OpSort, is-const, is-input, is-state, is-op, is-bad, is-ext, is-ite, is-divu, is-rem, is-read, is-write, is-sext}
+use Rattle.table.specs.Op.{opKind}
+use Rattle.table.proofs.Ops.{op-a, op-b, op-compares}
+use Rattle.table.proofs.ceiling.ByKind.{top-op}
+use Rattle.digits.specs.Op.{Op, opNot, opTwo}
+use Rattle.digits.proofs.Ops.{op-even, op-some}
+use Rattle.words.specs.Op.{opInto}
 use Rattle.netlist.specs.Net.{Net}
 use Rattle.gates.specs.declared.made.At.{At}
 use Rattle.gates.specs.Made.{Fits}
 use Rattle.digits.specs.Digits.{putDigits}
 use Rattle.words.specs.Num.{blank}
-use Rattle.words.specs.declared.each.Bitwise.the-variants as op
-use Rattle.words.specs.Each.{Word, eachBit, putBits}
+use Rattle.words.specs.Each.{Word, putBits}
 use Rattle.visits.specs.Flow.{Core}
 use Rattle.visits.specs.Stored.{stored}
 use Rattle.nodes.specs.declared.place.Place.{Place}
@@ -31,7 +35,8 @@ use Rattle.nodes.specs.Place.{plainAt}
 use Rattle.nodes.specs.Asked.{Makes, Plain, rightOf, placeOf, coreAt, Turned}
 use Rattle.nodes.proofs.Places.{word-words, word-wide, gates-of, sound-of}
 use Rattle.nodes.proofs.StepLaws.{wide-small}
-use Rattle.nodes.proofs.Paths.{plain-const, plain-not}
+use Rattle.nodes.proofs.Paths.{plain-const}
+use Rattle.nodes.proofs.OpKinds.{plain-is, only-not}
 use Rattle.nodes.proofs.Facts.{word-in, part-first, offset}
 
 -- one word of the whole state
@@ -59,23 +64,29 @@ pub data Sort (d : Node) (n w va vb : ℕ) : Type 0 where
   ofOne : d .kind ≡ NOT → OfWords d n w va → Sort d n w va vb
   ofTwo : (d .kind ≡ NOT → ⊥) → usesB (d .kind) ≡ true → vb ≡ va → OfWords d n w va → Sort d n w va vb
 
+of-words : (d : Node) (n : ℕ) {w va vb : ℕ} (o : Op) → d .kind ≡ opKind o → OpSort o (d .width) va vb → OfWords d n w va
+of-words d n o e z =
+    record {
+      own = omega (arith, z .wide, op-some o _ (z .word));
+      word = z .word;
+      uses = ap usesA e ∙ op-a o;
+      cost = top-op _ _ d _ o e (op-even o (z .wide)) ∙ sym (top-op 0 0 d _ o e (op-even o (z .wide)));
+      even = λ c. op-even o (z .wide) (sym (op-compares o) ∙ (sym (ap compares e) ∙ c));
+    }
+
+sort-op : (d : Node) (n : ℕ) {w va vb : ℕ} (o : Op) → d .kind ≡ opKind o → OpSort o (d .width) va vb → (b : Bool) → opTwo o ≡ b → Sort d n w va vb
+sort-op d n o e z true h =
+    let u : usesB (d .kind) ≡ true = ap usesB e ∙ (op-b o ∙ h) in ofTwo (λ q. clash (sym u ∙ ap usesB q)) u (z .same h) (of-words d n o e z)
+sort-op d n o e z false h = ofOne (e ∙ only-not o h) (of-words d n o e z)
+
 sort : (d : Node) (n : ℕ) {w va vb vc : ℕ} → Plain d → Rule w d va vb vc → Sort d n w va vb
 sort d n p (is-const e a b) = number e a
 sort d n p (is-input e) = clash (rw e at (p .given))
 sort d n p (is-state e a) = clash (rw e at (p .shares))
-sort d n p (is-not e a b) = ofOne e (record { own = a; word = omega arith; uses = rw e; cost = top-not _ _ d _ e ∙ sym (top-not 0 0 d _ e); even = λ _. sym b })
+sort d n p (is-op o e z) = sort-op d n o e z (opTwo o) refl
 sort d n p (is-bad e a b) = clash (rw e at (p .shares))
-sort d n p (is-and e s) = ofTwo (λ z. omega arith) (rw e) (s .right ∙ sym (s .left)) (record { own = s .word; word = omega (arith, s .word, s .left); uses = rw e; cost = top-and _ _ d _ e ∙ sym (top-and 0 0 d _ e); even = λ _. sym (s .left) })
 sort d n p (is-ext e s) = clash (rw e at (p .shares))
-sort d n p (is-eq e s) = ofTwo (λ z. omega arith) (rw e) (s .same) (record { own = omega (arith, s .one); word = s .word; uses = rw e; cost = top-eq _ _ d _ e ∙ sym (top-eq 0 0 d _ e); even = λ z. clash (rw e at z) })
-sort d n p (is-add e s) = ofTwo (λ z. omega arith) (rw e) (s .right ∙ sym (s .left)) (record { own = s .word; word = omega (arith, s .word, s .left); uses = rw e; cost = top-add _ _ d _ e ∙ sym (top-add 0 0 d _ e); even = λ _. sym (s .left) })
 sort d n p (is-ite e a b c) = clash (rw e at (p .chooses))
-sort d n p (is-sub e s) = ofTwo (λ z. omega arith) (rw e) (s .right ∙ sym (s .left)) (record { own = s .word; word = omega (arith, s .word, s .left); uses = rw e; cost = top-sub _ _ d _ e ∙ sym (top-sub 0 0 d _ e); even = λ _. sym (s .left) })
-sort d n p (is-ult e s) = ofTwo (λ z. omega arith) (rw e) (s .same) (record { own = omega (arith, s .one); word = s .word; uses = rw e; cost = top-ult _ _ d _ e ∙ sym (top-ult 0 0 d _ e); even = λ z. clash (rw e at z) })
-sort d n p (is-mul e s) = ofTwo (λ z. omega arith) (rw e) (s .right ∙ sym (s .left)) (record { own = s .word; word = omega (arith, s .word, s .left); uses = rw e; cost = top-mul _ _ d _ e ∙ sym (top-mul 0 0 d _ e); even = λ _. sym (s .left) })
-sort d n p (is-or e s) = ofTwo (λ z. omega arith) (rw e) (s .right ∙ sym (s .left)) (record { own = s .word; word = omega (arith, s .word, s .left); uses = rw e; cost = top-or _ _ d _ e ∙ sym (top-or 0 0 d _ e); even = λ _. sym (s .left) })
-sort d n p (is-sll e s) = ofTwo (λ z. omega arith) (rw e) (s .right ∙ sym (s .left)) (record { own = s .word; word = omega (arith, s .word, s .left); uses = rw e; cost = top-sll _ _ d _ e ∙ sym (top-sll 0 0 d _ e); even = λ _. sym (s .left) })
-sort d n p (is-srl e s) = ofTwo (λ z. omega arith) (rw e) (s .right ∙ sym (s .left)) (record { own = s .word; word = omega (arith, s .word, s .left); uses = rw e; cost = top-srl _ _ d _ e ∙ sym (top-srl 0 0 d _ e); even = λ _. sym (s .left) })
 sort d n p (is-sext e s) = clash (rw e at (p .shares))
 sort d n p (is-divu e s) = clash (rw e at (p .divides))
 sort d n p (is-rem e s) = clash (rw e at (p .divides))
@@ -84,7 +95,8 @@ sort d n p (is-write e a b c f) = clash (rw e at (p .writes))
 
 -- a not looks at one word alone
 not-any : (d : Node) (v : ℕ) (A B B′ : List ℕ) (s : Net) → d .kind ≡ NOT → plainWord d v A B s ≡ plainWord d v A B′ s
-not-any d v A B B′ s f = sym (plain-not d v A B s (eachBit op.Not A A v (asIs s blank)) blank refl f refl) ∙ plain-not d v A B′ s (eachBit op.Not A A v (asIs s blank)) blank refl f refl
+unfolding opInto
+not-any d v A B B′ s f = plain-is d v A B s opNot f ∙ sym (plain-is d v A B′ s opNot f)
 
 -- what plain_node is asked for, over the operand's word and that of `right`
 pub record Asks (g : List ℕ) (a : At) (long : ℕ) (d : Node) (left : Place) (right : ℕ) (p : Place) : Type 0 where

@@ -6,7 +6,8 @@ use lib.Dec.{eqb}
 use lib.ListN.{getD, set}
 use Rattle.loops.specs.Loop.{pick, iter}
 use Rattle.table.specs.declared.Node.{Node}
-use Rattle.table.specs.Kind.{CONST, STATE, NOT, BAD, AND, EQ, ADD, ITE, SUB, ULT, MUL, DIVU, READ, WRITE, OR, SLL, SRL, SEXT, extends, divides}
+use Rattle.table.specs.Kind.{CONST, STATE, BAD, ITE, DIVU, READ, WRITE, SEXT, extends, divides}
+use Rattle.table.specs.Op.{byOp}
 use Rattle.table.specs.Node.{given}
 use Rattle.netlist.specs.Net.{Net}
 use Rattle.netlist.specs.Bit.{isKnown}
@@ -15,13 +16,9 @@ use Rattle.digits.specs.Digits.{putDigits}
 use Rattle.words.specs.declared.each.Bitwise.the-variants as op
 use Rattle.words.specs.Num.{blank}
 use Rattle.words.specs.Each.{Word, eachBit, putBits}
-use Rattle.words.specs.Add.{Chain, addWords}
 use Rattle.words.specs.Extend.{extended}
-use Rattle.words.specs.Sub.{subWords, ultWords}
-use Rattle.words.specs.Eq.{eqWords}
-use Rattle.words.specs.Mul.{mulWords}
-use Rattle.words.specs.declared.shift.Direction.the-variants.{Left, Right}
-use Rattle.words.specs.Shift.{shiftWords}
+use Rattle.words.specs.Op.{opWord}
+pub use Rattle.words.specs.Op.{asIs, fresh, ofChain}
 use Rattle.memory.specs.Read.{readWords}
 use Rattle.memory.specs.Write.{writeWords}
 use Rattle.division.specs.Constraint.{consOf}
@@ -30,19 +27,6 @@ use Rattle.division.specs.Divide.{divideWords}
 use Rattle.visits.specs.Flow.{Core}
 use Rattle.visits.specs.Stored.{stored}
 use Rattle.nodes.specs.Source.{Source, listed, nodeOf, wordsOf, wideOf, bitsOf, offOf, wordAt, allAt, conditionOf, secondOf}
-
--- a word over a blank, and the net unchanged
-abbrev pub asIs : Net → List ℕ → Word
-asIs s out = record { net = s; out = out }
-
-abbrev pub fresh : Net → Word
-fresh s = asIs s blank
-
-abbrev pub ofChain : Chain → Word
-ofChain c = asIs (c .net) (c .out)
-
-abbrev pub ofBit : MadeBit → Word
-ofBit m = asIs (m .net) (set blank 0 (m .bit))
 
 -- word i of node k is made: it goes to its place in the map
 unfoldable pub wordStep : Source → ℕ → (ℕ → Core → Word) → ℕ → Core → Core
@@ -82,17 +66,7 @@ readWord S k i s =
 unfoldable pub plainWord : Node → ℕ → List ℕ → List ℕ → Net → Word
 plainWord d v A B s =
     pick (eqb (d .kind) CONST) (asIs s (putDigits (d .imm) (d .width) blank))
-    (pick (eqb (d .kind) NOT) (eachBit op.Not A A v (fresh s))
-    (pick (eqb (d .kind) AND) (eachBit op.And A B v (fresh s))
-    (pick (eqb (d .kind) EQ) (ofBit (eqWords v A B s))
-    (pick (eqb (d .kind) ADD) (ofChain (addWords v A B (record { net = s; carry = 0; out = blank })))
-    (pick (eqb (d .kind) SUB) (ofChain (subWords v A B s blank))
-    (pick (eqb (d .kind) ULT) (ofBit (ultWords v A B s))
-    (pick (eqb (d .kind) MUL) (mulWords v A B (fresh s))
-    (pick (eqb (d .kind) OR) (eachBit op.Or A B v (fresh s))
-    (pick (eqb (d .kind) SLL) (shiftWords Left v A B (fresh s))
-    (pick (eqb (d .kind) SRL) (shiftWords Right v A B (fresh s))
-    (fresh s)))))))))))
+    (byOp (d .kind) (fresh s) (λ o. opWord o v A B s))
 
 unfoldable pub wordOwn : Source → ℕ → ℕ → Core → Word
 wordOwn S k i s =

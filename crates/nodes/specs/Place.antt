@@ -2,14 +2,14 @@
 use mathlib.Core.List.{List}
 use mathlib.Core.Bool.{Bool}
 use Prim.Native.Nat.{ℕ, _+_, _*_}
-use lib.ListN.{getD, set, length, take, drop}
+use lib.ListN.{getD, length, take, drop}
 use Rattle.loops.specs.Loop.{iter}
 use Rattle.table.specs.declared.Node.{Node}
-use Rattle.gates.specs.Made.{MadeBit}
 use Rattle.words.specs.declared.each.Bitwise.the-variants as op
 use Rattle.words.specs.Num.{blank}
 use Rattle.words.specs.Each.{Word, eachBit, putBits}
 use Rattle.words.specs.Extend.{extended}
+pub use Rattle.words.specs.Op.{inFront}
 use Rattle.division.specs.Rows.{Checked}
 use Rattle.division.specs.Divide.{divideWords}
 use Rattle.memory.specs.Read.{readWords}
@@ -31,10 +31,6 @@ choices c a b w i x = eachBit (op.Choose (getD (x .out) c 0)) (take w (drop (a +
 -- word i of those from `from` on, v wide, shared by word i of those from `to` on, w wide; above it stand copies of the bit b
 unfoldable pub shareAt : ℕ → ℕ → ℕ → ℕ → ℕ → ℕ → List ℕ → List ℕ
 shareAt b from v to w i m = putBits (to + i * w) (extended b v (take v (drop (from + i * v) m))) w m
-
--- a bit as a word's lowest
-abbrev pub inFront : List ℕ → MadeBit → Word
-inFront out m = asIs (m .net) (set out 0 (m .bit))
 
 -- the word of a node d that is neither given nor shared, a choice, a division or a read: its operands' bits stand from a and from b on, v wide
 unfoldable pub plainAt : Node → ℕ → ℕ → ℕ → ℕ → Word → Word
