@@ -10,12 +10,12 @@ use Rattle.digits.specs.Op.{Op, opValue}
 use Rattle.digits.proofs.Ops.{each-op}
 use Rattle.table.specs.declared.Node.{Node}
 use Rattle.table.specs.Kind.{CONST, STATE, BAD, EXT, ITE, DIVU, REM, READ, WRITE, SEXT, accesses}
-use Rattle.table.specs.Op.{opKind}
+use Rattle.table.specs.Op.{opKind, byOp}
 use Rattle.values.specs.Value.{listed, divWord, remWord, sextWord, wordValue, readValue, writeValue, iteValue, placeAt, slotAt}
 
 module _ (l : List ℕ) (d : Node) (v : ℕ) (x : List ℕ) (a b c p j : ℕ) where
   pub at-const : d .kind ≡ CONST → slotAt l d v x a b c p j ≡ d .imm
-  unfolding slotAt wordValue pick
+  unfolding slotAt wordValue byOp pick
   at-const e = rw e
 
   pub at-state : d .kind ≡ STATE → slotAt l d v x a b c p j ≡ getD x (a + j) 0
@@ -23,11 +23,11 @@ module _ (l : List ℕ) (d : Node) (v : ℕ) (x : List ℕ) (a b c p j : ℕ) wh
   at-state e = rw e
 
   pub at-bad : d .kind ≡ BAD → slotAt l d v x a b c p j ≡ getD x a 0
-  unfolding slotAt wordValue pick
+  unfolding slotAt wordValue byOp pick
   at-bad e = rw e
 
   pub at-ext : d .kind ≡ EXT → slotAt l d v x a b c p j ≡ getD x a 0
-  unfolding slotAt wordValue pick
+  unfolding slotAt wordValue byOp pick
   at-ext e = rw e
 
   pub at-ite : d .kind ≡ ITE → slotAt l d v x a b c p j ≡ iteValue x a b c j
@@ -35,11 +35,11 @@ module _ (l : List ℕ) (d : Node) (v : ℕ) (x : List ℕ) (a b c p j : ℕ) wh
   at-ite e = rw e
 
   pub at-divu : d .kind ≡ DIVU → slotAt l d v x a b c p j ≡ divWord (d .width) (getD x a 0) (getD x b 0)
-  unfolding slotAt wordValue pick
+  unfolding slotAt wordValue byOp pick
   at-divu e = rw e
 
   pub at-rem : d .kind ≡ REM → slotAt l d v x a b c p j ≡ remWord (getD x a 0) (getD x b 0)
-  unfolding slotAt wordValue pick
+  unfolding slotAt wordValue byOp pick
   at-rem e = rw e
 
   pub at-read : d .kind ≡ READ → slotAt l d v x a b c p j ≡ readValue l x a p
@@ -51,11 +51,11 @@ module _ (l : List ℕ) (d : Node) (v : ℕ) (x : List ℕ) (a b c p j : ℕ) wh
   at-write e = rw e
 
   pub at-sext : d .kind ≡ SEXT → slotAt l d v x a b c p j ≡ sextWord v (d .width) (getD x a 0)
-  unfolding slotAt wordValue pick
+  unfolding slotAt wordValue byOp pick
   at-sext e = rw e
 
   pub at-op : (o : Op) → d .kind ≡ opKind o → slotAt l d v x a b c p j ≡ opValue o (d .width) (getD x a 0) (getD x b 0)
-  unfolding slotAt wordValue pick opValue
+  unfolding slotAt wordValue byOp pick opValue
   at-op =
       each-op (λ o. d .kind ≡ opKind o → slotAt l d v x a b c p j ≡ opValue o (d .width) (getD x a 0) (getD x b 0))
       (λ e. rw e) (λ e. rw e) (λ e. rw e) (λ e. rw e) (λ e. rw e) (λ e. rw e) (λ e. rw e) (λ e. rw e) (λ e. rw e) (λ e. rw e)

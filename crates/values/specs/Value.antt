@@ -1,13 +1,14 @@
 -- Word values, as BTOR2 and SMT-LIB's FixedSizeBitVectors: what a node's kind makes of the values of its operands.
 use mathlib.Core.List.{List}
 use Prim.Native.Nat.{ℕ, _+_, _-_, _*_, _/_, _%_, _^_}
-use lib.Bits.{bitAnd, bitOr}
 use lib.Dec.{eqb, ltb}
 use lib.ListN.{getD, length}
-use Rattle.loops.specs.Loop.{pick, first, bit}
+use Rattle.loops.specs.Loop.{pick, first}
+use Rattle.digits.specs.Op.{opValue}
 unfoldable pub use Rattle.digits.specs.Op.{notWord, addWord, subWord, mulWord, sllWord, srlWord}
 use Rattle.table.specs.declared.Node.{Node}
-use Rattle.table.specs.Kind.{CONST, STATE, NOT, AND, EQ, ADD, ITE, SUB, ULT, MUL, DIVU, REM, READ, WRITE, OR, SLL, SRL, SEXT, accesses}
+use Rattle.table.specs.Kind.{CONST, STATE, ITE, DIVU, REM, READ, WRITE, SEXT, accesses}
+use Rattle.table.specs.Op.{byOp}
 use Rattle.table.specs.Sheet.{isAt}
 
 -- divu by 0 is all ones, rem by 0 is the dividend
@@ -25,20 +26,10 @@ sextWord v w x = pick (ltb x (2 ^ (v - 1))) x ((x + (2 ^ w - 2 ^ v)) % 2 ^ w)
 unfoldable pub wordValue : Node → ℕ → ℕ → ℕ → ℕ
 wordValue d v x y =
     pick (eqb (d .kind) CONST) (d .imm)
-    (pick (eqb (d .kind) NOT) (notWord (d .width) x)
-    (pick (eqb (d .kind) AND) (bitAnd x y)
-    (pick (eqb (d .kind) EQ) (bit (eqb x y))
-    (pick (eqb (d .kind) ADD) (addWord (d .width) x y)
-    (pick (eqb (d .kind) SUB) (subWord (d .width) x y)
-    (pick (eqb (d .kind) ULT) (bit (ltb x y))
-    (pick (eqb (d .kind) MUL) (mulWord (d .width) x y)
     (pick (eqb (d .kind) DIVU) (divWord (d .width) x y)
     (pick (eqb (d .kind) REM) (remWord x y)
-    (pick (eqb (d .kind) OR) (bitOr x y)
-    (pick (eqb (d .kind) SLL) (sllWord (d .width) x y)
-    (pick (eqb (d .kind) SRL) (srlWord (d .width) x y)
     (pick (eqb (d .kind) SEXT) (sextWord v (d .width) x)
-    x)))))))))))))
+    (byOp (d .kind) x (λ o. opValue o (d .width) x y)))))
 
 -- the place of an address among the listed ones; their number where it is not listed
 abbrev pub listed : List ℕ → ℕ → ℕ

@@ -140,6 +140,15 @@ pub fn word_value(node: Node, v: u64, x: u64, y: u64) -> u64
     if k == CONST {
         return node.imm;
     }
+    if k == DIVU {
+        return div_word(w, x, y);
+    }
+    if k == REM {
+        return rem_word(x, y);
+    }
+    if k == SEXT {
+        return sext_word(v, w, x);
+    }
     if k == NOT {
         return not_word(w, x);
     }
@@ -161,12 +170,6 @@ pub fn word_value(node: Node, v: u64, x: u64, y: u64) -> u64
     if k == MUL {
         return mul_word(w, x, y);
     }
-    if k == DIVU {
-        return div_word(w, x, y);
-    }
-    if k == REM {
-        return rem_word(x, y);
-    }
     if k == OR {
         return x | y;
     }
@@ -175,9 +178,6 @@ pub fn word_value(node: Node, v: u64, x: u64, y: u64) -> u64
     }
     if k == SRL {
         return srl_word(w, x, y);
-    }
-    if k == SEXT {
-        return sext_word(v, w, x);
     }
     x
 }
