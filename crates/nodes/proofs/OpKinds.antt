@@ -7,7 +7,7 @@ use lib.Dec.{eqb}
 use Rattle.loops.proofs.Loop.{pick-false}
 use Rattle.table.specs.declared.Node.{Node}
 use Rattle.table.specs.Kind.{CONST, INPUT, STATE, NOT, BAD, ITE, READ, WRITE, extends, divides}
-use Rattle.table.specs.Op.{opKind, byOp}
+use Rattle.table.specs.Op.{opKind}
 use Rattle.table.proofs.Ops.{by-op}
 use Rattle.netlist.specs.Net.{Net}
 use Rattle.digits.specs.Op.{Op, opTwo}

@@ -1,7 +1,7 @@
 -- What the code's calls come to, path by path, over the definitions alone: a proof of the code cites each by its bare name in `search`.
 use mathlib.Core.Path.{_≡_, refl, ap, sym, _∙_}
 use mathlib.Core.List.{List}
-use mathlib.Core.Bool.{Bool, false}
+use mathlib.Core.Bool.{Bool}
 use Prim.Native.Nat.{ℕ, _+_, _*_, _-_, _≤_}
 use native.Mathlib.Omega.{arith}
 use lib.ListN.{length, getD, set, take, drop}
@@ -9,12 +9,9 @@ use borrow.Author.Tests.{ne-eqb}
 use Rattle.loops.specs.Loop.{pick, iter}
 use Rattle.loops.proofs.Loop.{iter-inv}
 use Rattle.table.specs.declared.Node.{Node}
-use Rattle.table.specs.Kind.{CONST, NOT, AND, EQ, ADD, SUB, ULT, MUL, OR, SLL, SRL, compares}
+use Rattle.table.specs.Kind.{CONST, NOT, AND, EQ, ADD, SUB, ULT, MUL, OR, SLL, SRL}
 use Rattle.table.specs.Op.{opKind, byOp}
-use Rattle.table.proofs.Ops.{op-compares}
-use Rattle.digits.specs.Op.{Op, opGates}
-use Rattle.table.specs.Ceiling.{ceiling}
-use Rattle.table.proofs.ceiling.ByKind.{top-op}
+use Rattle.digits.specs.Op.{Op}
 use Rattle.netlist.specs.Net.{Net}
 use Rattle.gates.specs.declared.made.At.{At}
 use Rattle.gates.specs.Made.{MadeBit, netOf, madeOf, added, gateInputBit}
@@ -121,9 +118,6 @@ module _ (d : Node) (v : ℕ) (A B : List ℕ) (s : Net) (x : Word) (out : List 
         ne-eqb _ _ e10,
         ne-eqb _ _ e11,
       ) (rw h at q)
-
-pub plain-room : (d : Node) (v : ℕ) (o : Op) → d .kind ≡ opKind o → (compares (d .kind) ≡ false → d .width ≡ v) → ceiling 0 0 d v ≡ opGates o v
-plain-room d v o e h = top-op 0 0 d v o e (λ z. h (ap compares e ∙ (op-compares o ∙ z)))
 
 pub plain-path : (d : Node) (v a b to : ℕ) (g g′ word map map′ : List ℕ) (n n′ : At)
     → wordOf g′ n′ word ≡ plainWord d v (take (a + v - a) (drop a map)) (take (b + v - b) (drop b map)) (netOf g n)

@@ -2,7 +2,7 @@
 use mathlib.Core.Path.{_≡_, refl, ap, sym, _∙_}
 use mathlib.Core.List.{List}
 use mathlib.Core.Bool.{true, not, _&&_}
-use Prim.Native.Nat.{ℕ, _+_, _-_, _*_, _≤_, _<_}
+use Prim.Native.Nat.{ℕ, _+_, _*_, _≤_, _<_}
 use native.Mathlib.Omega.{arith}
 use lib.Dec.{eqb, leb}
 use lib.ListN.{length}
@@ -18,7 +18,7 @@ use Rattle.table.proofs.Whole.{Sound, OpSort, within, fine}
 use Rattle.table.proofs.Ops.{op-a, op-b}
 use Rattle.table.proofs.ceiling.ByKind.{top-op}
 use Rattle.digits.specs.Op.{Op, opTwo, opWide, opGates}
-use Rattle.digits.proofs.Ops.{op-even, op-some}
+use Rattle.digits.proofs.Ops.{op-some}
 use Rattle.digits.specs.Digits.{Below}
 use Rattle.netlist.specs.Net.{Net}
 use Rattle.gates.proofs.Laws.{grows-weaken}
@@ -154,7 +154,7 @@ module _ (S : Source) (clear : tableFault (S .table) (S .addrs) (S .word) ≡ Cl
       pub op-word : Owes
       unfolding wordOwn
       op-word =
-          let g : gatesOf S k ≡ opGates o Wide = gates-of S k (is .low) ∙ (top-op _ _ (nodeOf S k) _ o e (op-even o (z .wide)) ∙ ap (opGates o) (sym wide-here)) in
+          let g : gatesOf S k ≡ opGates o Wide = gates-of S k (is .low) ∙ (top-op _ _ (nodeOf S k) _ o e ∙ ap (opGates o) (sym wide-here)) in
           let w : opWide o Wide ≡ wideOf S k = ap (opWide o) wide-here ∙ (sym (z .wide) ∙ sym (word-wide S k (omega (arith, z .wide, op-some o _ (z .word))))) in
           rw (plain-is (nodeOf S k) Wide X Y (x .net) o e)
           (made-owes {s = s} {In = λ b. Below b X Wide × (opTwo o ≡ true → Below b Y Wide)}

@@ -3,7 +3,7 @@ use mathlib.Core.Path.{_≡_, refl, ap, sym, _∙_, subst}
 use mathlib.Core.List.{List}
 use mathlib.Core.Logic.{_⊎_, inl, inr}
 use mathlib.Core.Bool.{Bool, true, false}
-use Prim.Native.Nat.{ℕ, _+_, _*_, _-_, _≤_, _<_}
+use Prim.Native.Nat.{ℕ, _+_, _*_, _≤_, _<_}
 use native.Mathlib.Omega.{arith}
 use lib.ListN.{length, getD, take, drop}
 use borrow.Author.Tests.{eq-eqb, ne-eqb}
@@ -70,7 +70,7 @@ of-words d n o e z =
       own = omega (arith, z .wide, op-some o _ (z .word));
       word = z .word;
       uses = ap usesA e ∙ op-a o;
-      cost = top-op _ _ d _ o e (op-even o (z .wide)) ∙ sym (top-op 0 0 d _ o e (op-even o (z .wide)));
+      cost = top-op _ _ d _ o e ∙ sym (top-op 0 0 d _ o e);
       even = λ c. op-even o (z .wide) (sym (op-compares o) ∙ (sym (ap compares e) ∙ c));
     }
 

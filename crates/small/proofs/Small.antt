@@ -32,7 +32,7 @@ use Rattle.words.specs.Join.{joinStep}
 use Rattle.words.specs.Mul.{mulStep}
 use Rattle.words.specs.Num.{filled}
 use Rattle.words.specs.Op.{opInto}
-use Rattle.digits.specs.Op.{opValue}
+use Rattle.digits.specs.Op.{opValue, opGates}
 use Rattle.words.specs.Sub.{subWords, ultWords}
 use Rattle.division.specs.Check.{sumWords, checkWords}
 use Rattle.division.specs.Constraint.{putCon, constrain, conStep}
@@ -185,5 +185,5 @@ right r l = all-right r l (evalGates (take (used 13) (l .gates)) given .values) 
 
 -- lent: 1,000 gates, 64 constraints, 1,000 places
 pub small : right (evalWords table addresses 2 before) (lowerAll (source table addresses 2) (replicate 4000 0) (replicate 128 0) (replicate 1000 0)) ≡ true
-unfolding right all-right asked pick iter first sum divGates divConstraints memoryGates iteGates plainGates ceiling constraintCeiling nodeGates nodeConstraints sumsOf fieldAt sizeGood isAt addressBad addressesBad operandsGood sortGood sortsGood faultOf nodeFault nodeBad nodesFault tableFault asksAt asks nodeSize offsetOf sizeSum slotWidth slotBad inputBad slotStep nodeStep evalClear evalWords notWord addWord subWord mulWord divWord remWord wordValue readValue writeValue iteValue placeAt slotAt isKnown knownOf byKnown fieldGood constGood laterGood faulty listFault gateValue evalStep outOfRange evalSound evalGates free usesY usesZ valueOf gateAt put twoKnown oneKnown noneKnown adderBit trueSide falseSide bothSides choiceBit muxBit notBit andBit orBit xnorBit added digits.digit digits.number digitStep unknownAt allKnown addStep bitwise eachStep copyStep joinStep eqWords mulStep filled subWords ultWords sumWords checkWords putCon constrain conStep divWords freeWord divideWords pairStep rowStep atListed readKnown readOne readStep readWords writeKnown writeStep writeWords owned enter mark visitTo rootStep lowerTo stored start ended lowerClear lowerAsked lowerAll wordStep inputStep inputWord shareWord aboveOf chooseWord readWord plainWord byOp opInto opValue wordOwn writeOwn divideOwn iteOwn ownStep wordsOf wideOf bitsOf gatesOf asksOf secondOf thirdOf
+unfolding right all-right asked pick iter first sum divGates divConstraints memoryGates iteGates plainGates ceiling constraintCeiling nodeGates nodeConstraints sumsOf fieldAt sizeGood isAt addressBad addressesBad operandsGood sortGood sortsGood faultOf nodeFault nodeBad nodesFault tableFault asksAt asks nodeSize offsetOf sizeSum slotWidth slotBad inputBad slotStep nodeStep evalClear evalWords notWord addWord subWord mulWord divWord remWord wordValue readValue writeValue iteValue placeAt slotAt isKnown knownOf byKnown fieldGood constGood laterGood faulty listFault gateValue evalStep outOfRange evalSound evalGates free usesY usesZ valueOf gateAt put twoKnown oneKnown noneKnown adderBit trueSide falseSide bothSides choiceBit muxBit notBit andBit orBit xnorBit added digits.digit digits.number digitStep unknownAt allKnown addStep bitwise eachStep copyStep joinStep eqWords mulStep filled subWords ultWords sumWords checkWords putCon constrain conStep divWords freeWord divideWords pairStep rowStep atListed readKnown readOne readStep readWords writeKnown writeStep writeWords owned enter mark visitTo rootStep lowerTo stored start ended lowerClear lowerAsked lowerAll wordStep inputStep inputWord shareWord aboveOf chooseWord readWord plainWord byOp opInto opValue opGates wordOwn writeOwn divideOwn iteOwn ownStep wordsOf wideOf bitsOf gatesOf asksOf secondOf thirdOf
 small = refl

@@ -1,8 +1,6 @@
 -- The kinds that are plain operations, one by one.
 use mathlib.Core.Path.{_≡_, refl}
-use mathlib.Core.Bool.{true, false}
-use Prim.Native.Nat.{ℕ}
-use lib.Dec.{eqb}
+use mathlib.Core.Bool.{true}
 use Rattle.loops.specs.Loop.{pick}
 use Rattle.digits.specs.Op.{Op, opTwo, opOne}
 use Rattle.digits.proofs.Ops.{each-op}

@@ -1,14 +1,15 @@
 -- Ceilings in gates and constraints, and their sums.
 use mathlib.Core.List.{List}
-use mathlib.Core.Bool.{_||_}
 use Prim.Native.Nat.{ℕ, _+_, _-_, _*_, _/_}
 use lib.Dec.{eqb}
 use Rattle.loops.specs.Loop.{pick, sum}
+use Rattle.digits.specs.Op.{opGates}
 unfoldable pub use Rattle.digits.specs.Op.{shiftGates}
 use Rattle.table.specs.declared.Node.{Node}
 use Rattle.table.specs.declared.Sums.{Sums}
 use Rattle.table.specs.declared.Unit.the-variants.{Bit}
-use Rattle.table.specs.Kind.{NOT, AND, EQ, ADD, ITE, SUB, ULT, MUL, READ, WRITE, OR, divides, shifts}
+use Rattle.table.specs.Kind.{ITE, READ, WRITE, divides}
+use Rattle.table.specs.Op.{byOp}
 use Rattle.table.specs.Node.{widthOf, aOf, nodeAt, nodes, given}
 use Rattle.table.specs.Size.{sizeOf, sizeSum}
 
@@ -31,23 +32,16 @@ iteGates n w v = 3 * sizeOf Bit n w v
 -- const, bad, ext, sext and an initialised state make none
 unfoldable pub plainGates : ℕ → ℕ → Node → ℕ → ℕ
 plainGates n w d x =
-    pick (eqb (d .kind) NOT || eqb (d .kind) AND || eqb (d .kind) OR) (d .width)
-    (pick (eqb (d .kind) EQ) (3 * x - 1)
-    (pick (eqb (d .kind) ADD) (3 * d .width)
-    (pick (eqb (d .kind) SUB) (4 * d .width)
-    (pick (eqb (d .kind) ULT) (4 * x + 1)
-    (pick (eqb (d .kind) MUL) (2 * d .width * (d .width + 1))
-    (pick (eqb (d .kind) ITE) (iteGates n w (d .width))
+    pick (eqb (d .kind) ITE) (iteGates n w (d .width))
     (pick (eqb (d .kind) READ) (memoryGates n w 4)
     (pick (eqb (d .kind) WRITE) (memoryGates n w 5)
-    0))))))))
+    (byOp (d .kind) 0 (λ o. opGates o x))))
 
 unfoldable pub ceiling : ℕ → ℕ → Node → ℕ → ℕ
 ceiling n w d x =
     pick (given d) (sizeOf Bit n w (d .width))
     (pick (divides (d .kind)) (divGates (d .width))
-    (pick (shifts (d .kind)) (shiftGates (d .width))
-    (plainGates n w d x)))
+    (plainGates n w d x))
 
 -- constraints of a node by its kind
 unfoldable pub constraintCeiling : Node → ℕ

@@ -103,9 +103,6 @@ divides k = eqb k DIVU || eqb k REM
 abbrev pub extends : ℕ → Bool
 extends k = eqb k EXT || eqb k SEXT
 
-abbrev pub shifts : ℕ → Bool
-shifts k = eqb k SLL || eqb k SRL
-
 -- read and write have an address
 abbrev pub accesses : ℕ → Bool
 accesses k = eqb k READ || eqb k WRITE

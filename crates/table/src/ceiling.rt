@@ -20,11 +20,12 @@ use crate::kind::MUL;
 use crate::kind::NOT;
 use crate::kind::OR;
 use crate::kind::READ;
+use crate::kind::SLL;
+use crate::kind::SRL;
 use crate::kind::SUB;
 use crate::kind::ULT;
 use crate::kind::WRITE;
 use crate::kind::divides;
-use crate::kind::shifts;
 use crate::size::node_size;
 use crate::size::size_of;
 use crate::size::times;
@@ -77,39 +78,50 @@ fn ite_gates(n: u64, w: u64, v: u64) -> u64
     3 * size_of(Unit::Bit, n, w, v)
 }
 
-// The gates of a node that is not given, no division and no shift, over a first operand x wide.
+// The gates of a node that is not given and no division, over a first operand x wide.
 fn plain_gates(n: u64, w: u64, node: Node, x: u64) -> u64
     requires { ⌜ (n ≤ 64) × (w ≤ 64) × (node .width ≤ 64) × (x ≤ 64) ⌝ }
     ensures { λ r. ⌜ (r ≡ plainGates n w node x) × (r ≤ 67108864) ⌝ }
 {
     let k = node.kind;
-    let v = node.width;
-    if (k == NOT) | (k == AND) | (k == OR) {
-        return v;
-    }
-    if k == EQ {
-        return less_one(3 * x);
-    }
-    if k == ADD {
-        return 3 * v;
-    }
-    if k == SUB {
-        return 4 * v;
-    }
-    if k == ULT {
-        return 4 * x + 1;
-    }
-    if k == MUL {
-        return times(2 * v, v + 1);
-    }
     if k == ITE {
-        return ite_gates(n, w, v);
+        return ite_gates(n, w, node.width);
     }
     if k == READ {
         return memory_gates(n, w, 4);
     }
     if k == WRITE {
         return memory_gates(n, w, 5);
+    }
+    if k == NOT {
+        return x;
+    }
+    if k == AND {
+        return x;
+    }
+    if k == EQ {
+        return less_one(3 * x);
+    }
+    if k == ADD {
+        return 3 * x;
+    }
+    if k == SUB {
+        return 4 * x;
+    }
+    if k == ULT {
+        return 4 * x + 1;
+    }
+    if k == MUL {
+        return times(2 * x, x + 1);
+    }
+    if k == OR {
+        return x;
+    }
+    if k == SLL {
+        return shift_gates(x);
+    }
+    if k == SRL {
+        return shift_gates(x);
     }
     0
 }
@@ -124,9 +136,6 @@ fn ceiling(n: u64, w: u64, node: Node, x: u64) -> u64
     }
     if divides(node.kind) {
         return div_gates(node.width);
-    }
-    if shifts(node.kind) {
-        return shift_gates(node.width);
     }
     plain_gates(n, w, node, x)
 }

@@ -120,12 +120,6 @@ pub fn extends(k: u64) -> bool
     (k == EXT) | (k == SEXT)
 }
 
-pub fn shifts(k: u64) -> bool
-    ensures { λ r. ⌜ r ≡ kinds.shifts k ⌝ }
-{
-    (k == SLL) | (k == SRL)
-}
-
 // read and write have an address.
 pub fn accesses(k: u64) -> bool
     ensures { λ r. ⌜ r ≡ kinds.accesses k ⌝ }

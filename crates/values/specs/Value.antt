@@ -1,6 +1,6 @@
 -- Word values, as BTOR2 and SMT-LIB's FixedSizeBitVectors: what a node's kind makes of the values of its operands.
 use mathlib.Core.List.{List}
-use Prim.Native.Nat.{ℕ, _+_, _-_, _*_, _/_, _%_, _^_}
+use Prim.Native.Nat.{ℕ, _+_, _-_, _/_, _%_, _^_}
 use lib.Dec.{eqb, ltb}
 use lib.ListN.{getD, length}
 use Rattle.loops.specs.Loop.{pick, first}

@@ -10,27 +10,27 @@ use lib.Dec.{eqb, ltb}
 use lib.ListN.{getD, set}
 use lib.Seq.{getD-set-same}
 use Rattle.loops.specs.Loop.{pick, bit}
-use Rattle.netlist.specs.Net.{Net, Assign, Obeys}
+use Rattle.netlist.specs.Net.{Net, Assign}
 use Rattle.gates.specs.Made.{MadeBit}
 use Rattle.gates.specs.Law.{Formed, BitLaw}
 use Rattle.gates.proofs.Laws.{ext-weaken}
 use Rattle.digits.specs.Digits.{digit, Below}
-use Rattle.digits.specs.Op.{notWord, addWord, subWord, mulWord, sllWord, srlWord, Op, opNot, opAnd, opOr, opEq, opAdd, opSub, opUlt, opMul, opSll, opSrl, opTwo, opOne, opWide, opValue, shiftGates, opGates}
+use Rattle.digits.specs.Op.{notWord, addWord, subWord, mulWord, sllWord, srlWord, Op, opNot, opAnd, opOr, opEq, opAdd, opSub, opUlt, opMul, opSll, opSrl, opTwo, opOne, opValue, shiftGates, opGates}
 use Rattle.digits.proofs.Numbers.{digit-lt}
 use Rattle.words.specs.declared.each.Bitwise.{Bitwise}
 use Rattle.words.specs.declared.each.Bitwise.the-variants.{Not, And, Or}
 use Rattle.words.specs.declared.shift.Direction.{Direction}
 use Rattle.words.specs.declared.shift.Direction.the-variants.{Left, Right}
 use Rattle.words.specs.Num.{num, blank}
-use Rattle.words.specs.Each.{Word, bitValue, bitBelow, eachBit, eachCost, EachLaw}
-use Rattle.words.specs.Add.{addWords, addCost}
-use Rattle.words.specs.Sub.{subWords, subCost}
-use Rattle.words.specs.Mul.{mulWords, mulCost}
+use Rattle.words.specs.Each.{bitValue, bitBelow, eachBit, eachCost, EachLaw}
+use Rattle.words.specs.Add.{addCost}
+use Rattle.words.specs.Sub.{subCost}
+use Rattle.words.specs.Mul.{mulCost}
 use Rattle.words.specs.Shift.{shiftWords, shiftCost, shifted}
-use Rattle.words.specs.Op.{asIs, fresh, ofChain, inFront, opInto, opWord, WordLaw, OpLaw}
+use Rattle.words.specs.Op.{fresh, inFront, opInto, opWord, WordLaw, OpLaw}
 use Rattle.words.proofs.NumLaws.{num-lt, num-suc, num-none, num-not, right-num, num-right, blank-long}
 use Rattle.words.proofs.EachLaws.{each-law, nots-cost, ands-cost, ors-cost}
-use Rattle.words.proofs.AddLaws.{AddLaw, add-law, add-value, cost-three}
+use Rattle.words.proofs.AddLaws.{add-law, add-value, cost-three}
 use Rattle.words.proofs.SubLaws.{sub-law, sub-four, sub-value, ult-law}
 use Rattle.words.proofs.EqLaws.{eq-law, eq-three}
 use Rattle.words.proofs.MulLaws.{mul-law}

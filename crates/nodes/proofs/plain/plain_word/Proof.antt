@@ -3,7 +3,8 @@ use native.Mathlib.Omega.{arith}
 use Rattle.words.proofs.EachLaws.{nots-cost, ands-cost, ors-cost}
 use Rattle.digits.specs.Op.{opNot, opAnd, opOr, opEq, opAdd, opSub, opUlt, opMul, opSll, opSrl, shiftGates, opGates}
 use Rattle.words.specs.Op.{opInto}
-use Rattle.nodes.proofs.Paths.{blank-room, plain-op, plain-none, plain-room}
+use Rattle.nodes.proofs.Paths.{blank-room, plain-op, plain-none}
+use Rattle.table.proofs.ceiling.ByKind.{top-op}
 use borrow.Author.Needs.{needs}
 use Rattle.nodes.proofs.plain.plain_word.Statement.{statement}
 use Rattle.nodes.proofs.plain.plain_word.Tie as tie
@@ -19,7 +20,7 @@ use Rattle.words.proofs.shift.shift_words.Reads as shift-words-reads
 
 each-bit-requires : tie.Need-each-bit-requires
 unfolding opGates shiftGates
-each-bit-requires c κs = omega (arith, blank-room _ (c .before .before .before .before .before .before .before .pre .1 .1 .4), nots-cost (c .before .before .before .before .before .before .before .args .a .now) (c .before .before .before .before .before .before .before .args .v), plain-room (c .before .before .before .before .before .before .before .args .node) (c .before .before .before .before .before .before .before .args .v) opNot (c .before .before .if1 .taken) (c .before .before .before .before .before .before .before .pre .1 .0 .1))
+each-bit-requires c κs = omega (arith, blank-room _ (c .before .before .before .before .before .before .before .pre .1 .1 .4), nots-cost (c .before .before .before .before .before .before .before .args .a .now) (c .before .before .before .before .before .before .before .args .v), top-op 0 0 (c .before .before .before .before .before .before .before .args .node) (c .before .before .before .before .before .before .before .args .v) opNot (c .before .before .if1 .taken))
 
 same-length : tie.Need-same-length
 same-length c = search needs
@@ -33,7 +34,7 @@ returns c = plain-op _ _ _ _ _ _ _ (c .before .before .before .before .before .b
 
 each-bit-requires-2 : tie.Need-each-bit-requires-2
 unfolding opGates shiftGates
-each-bit-requires-2 c κs = omega (arith, blank-room _ (c .before .before .before .before .before .before .before .before .pre .1 .1 .4), ands-cost (c .before .before .before .before .before .before .before .before .args .a .now) (c .before .before .before .before .before .before .before .before .args .b .now) (c .before .before .before .before .before .before .before .before .args .v), plain-room (c .before .before .before .before .before .before .before .before .args .node) (c .before .before .before .before .before .before .before .before .args .v) opAnd (c .before .before .if2 .taken) (c .before .before .before .before .before .before .before .before .pre .1 .0 .1))
+each-bit-requires-2 c κs = omega (arith, blank-room _ (c .before .before .before .before .before .before .before .before .pre .1 .1 .4), ands-cost (c .before .before .before .before .before .before .before .before .args .a .now) (c .before .before .before .before .before .before .before .before .args .b .now) (c .before .before .before .before .before .before .before .before .args .v), top-op 0 0 (c .before .before .before .before .before .before .before .before .args .node) (c .before .before .before .before .before .before .before .before .args .v) opAnd (c .before .before .if2 .taken))
 
 same-length-3 : tie.Need-same-length-3
 same-length-3 c = search needs
@@ -47,7 +48,7 @@ returns-2 c = plain-op _ _ _ _ _ _ _ (c .before .before .before .before .before 
 
 eq-word-requires : tie.Need-eq-word-requires
 unfolding opGates shiftGates
-eq-word-requires c κs = omega (arith, blank-room _ (c .before .before .before .before .before .before .before .before .before .pre .1 .1 .4), plain-room (c .before .before .before .before .before .before .before .before .before .args .node) (c .before .before .before .before .before .before .before .before .before .args .v) opEq (c .before .before .if3 .taken) (c .before .before .before .before .before .before .before .before .before .pre .1 .0 .1))
+eq-word-requires c κs = omega (arith, blank-room _ (c .before .before .before .before .before .before .before .before .before .pre .1 .1 .4), top-op 0 0 (c .before .before .before .before .before .before .before .before .before .args .node) (c .before .before .before .before .before .before .before .before .before .args .v) opEq (c .before .before .if3 .taken))
 
 same-length-5 : tie.Need-same-length-5
 same-length-5 c = search needs
@@ -61,7 +62,7 @@ returns-3 c = plain-op _ _ _ _ _ _ _ (c .before .before .before .before .before 
 
 add-word-requires : tie.Need-add-word-requires
 unfolding opGates shiftGates
-add-word-requires c κs = omega (arith, blank-room _ (c .before .before .before .before .before .before .before .before .before .before .pre .1 .1 .4), plain-room (c .before .before .before .before .before .before .before .before .before .before .args .node) (c .before .before .before .before .before .before .before .before .before .before .args .v) opAdd (c .before .before .if4 .taken) (c .before .before .before .before .before .before .before .before .before .before .pre .1 .0 .1))
+add-word-requires c κs = omega (arith, blank-room _ (c .before .before .before .before .before .before .before .before .before .before .pre .1 .1 .4), top-op 0 0 (c .before .before .before .before .before .before .before .before .before .before .args .node) (c .before .before .before .before .before .before .before .before .before .before .args .v) opAdd (c .before .before .if4 .taken))
 
 same-length-7 : tie.Need-same-length-7
 same-length-7 c = search needs
@@ -75,7 +76,7 @@ returns-4 c = plain-op _ _ _ _ _ _ _ (c .before .before .before .before .before 
 
 sub-word-requires : tie.Need-sub-word-requires
 unfolding opGates shiftGates
-sub-word-requires c κs = omega (arith, blank-room _ (c .before .before .before .before .before .before .before .before .before .before .before .pre .1 .1 .4), plain-room (c .before .before .before .before .before .before .before .before .before .before .before .args .node) (c .before .before .before .before .before .before .before .before .before .before .before .args .v) opSub (c .before .before .if5 .taken) (c .before .before .before .before .before .before .before .before .before .before .before .pre .1 .0 .1))
+sub-word-requires c κs = omega (arith, blank-room _ (c .before .before .before .before .before .before .before .before .before .before .before .pre .1 .1 .4), top-op 0 0 (c .before .before .before .before .before .before .before .before .before .before .before .args .node) (c .before .before .before .before .before .before .before .before .before .before .before .args .v) opSub (c .before .before .if5 .taken))
 
 same-length-9 : tie.Need-same-length-9
 same-length-9 c = search needs
@@ -89,7 +90,7 @@ returns-5 c = plain-op _ _ _ _ _ _ _ (c .before .before .before .before .before 
 
 ult-word-requires : tie.Need-ult-word-requires
 unfolding opGates shiftGates
-ult-word-requires c κs = omega (arith, blank-room _ (c .before .before .before .before .before .before .before .before .before .before .before .before .pre .1 .1 .4), plain-room (c .before .before .before .before .before .before .before .before .before .before .before .before .args .node) (c .before .before .before .before .before .before .before .before .before .before .before .before .args .v) opUlt (c .before .before .if6 .taken) (c .before .before .before .before .before .before .before .before .before .before .before .before .pre .1 .0 .1))
+ult-word-requires c κs = omega (arith, blank-room _ (c .before .before .before .before .before .before .before .before .before .before .before .before .pre .1 .1 .4), top-op 0 0 (c .before .before .before .before .before .before .before .before .before .before .before .before .args .node) (c .before .before .before .before .before .before .before .before .before .before .before .before .args .v) opUlt (c .before .before .if6 .taken))
 
 same-length-11 : tie.Need-same-length-11
 same-length-11 c = search needs
@@ -103,7 +104,7 @@ returns-6 c = plain-op _ _ _ _ _ _ _ (c .before .before .before .before .before 
 
 mul-words-requires : tie.Need-mul-words-requires
 unfolding opGates shiftGates
-mul-words-requires c κs = omega (arith, blank-room _ (c .before .before .before .before .before .before .before .before .before .before .before .before .before .pre .1 .1 .4), plain-room (c .before .before .before .before .before .before .before .before .before .before .before .before .before .args .node) (c .before .before .before .before .before .before .before .before .before .before .before .before .before .args .v) opMul (c .before .before .if7 .taken) (c .before .before .before .before .before .before .before .before .before .before .before .before .before .pre .1 .0 .1))
+mul-words-requires c κs = omega (arith, blank-room _ (c .before .before .before .before .before .before .before .before .before .before .before .before .before .pre .1 .1 .4), top-op 0 0 (c .before .before .before .before .before .before .before .before .before .before .before .before .before .args .node) (c .before .before .before .before .before .before .before .before .before .before .before .before .before .args .v) opMul (c .before .before .if7 .taken))
 
 same-length-13 : tie.Need-same-length-13
 same-length-13 c = search needs
@@ -117,7 +118,7 @@ returns-7 c = plain-op _ _ _ _ _ _ _ (c .before .before .before .before .before 
 
 each-bit-requires-3 : tie.Need-each-bit-requires-3
 unfolding opGates shiftGates
-each-bit-requires-3 c κs = omega (arith, blank-room _ (c .before .before .before .before .before .before .before .before .before .before .before .before .before .before .pre .1 .1 .4), ors-cost (c .before .before .before .before .before .before .before .before .before .before .before .before .before .before .args .a .now) (c .before .before .before .before .before .before .before .before .before .before .before .before .before .before .args .b .now) (c .before .before .before .before .before .before .before .before .before .before .before .before .before .before .args .v), plain-room (c .before .before .before .before .before .before .before .before .before .before .before .before .before .before .args .node) (c .before .before .before .before .before .before .before .before .before .before .before .before .before .before .args .v) opOr (c .before .before .if8 .taken) (c .before .before .before .before .before .before .before .before .before .before .before .before .before .before .pre .1 .0 .1))
+each-bit-requires-3 c κs = omega (arith, blank-room _ (c .before .before .before .before .before .before .before .before .before .before .before .before .before .before .pre .1 .1 .4), ors-cost (c .before .before .before .before .before .before .before .before .before .before .before .before .before .before .args .a .now) (c .before .before .before .before .before .before .before .before .before .before .before .before .before .before .args .b .now) (c .before .before .before .before .before .before .before .before .before .before .before .before .before .before .args .v), top-op 0 0 (c .before .before .before .before .before .before .before .before .before .before .before .before .before .before .args .node) (c .before .before .before .before .before .before .before .before .before .before .before .before .before .before .args .v) opOr (c .before .before .if8 .taken))
 
 same-length-15 : tie.Need-same-length-15
 same-length-15 c = search needs
@@ -131,7 +132,7 @@ returns-8 c = plain-op _ _ _ _ _ _ _ (c .before .before .before .before .before 
 
 shift-words-requires : tie.Need-shift-words-requires
 unfolding opGates shiftGates
-shift-words-requires c κs = omega (arith, blank-room _ (c .before .before .before .before .before .before .before .before .before .before .before .before .before .before .before .pre .1 .1 .4), plain-room (c .before .before .before .before .before .before .before .before .before .before .before .before .before .before .before .args .node) (c .before .before .before .before .before .before .before .before .before .before .before .before .before .before .before .args .v) opSll (c .before .before .if9 .taken) (c .before .before .before .before .before .before .before .before .before .before .before .before .before .before .before .pre .1 .0 .1))
+shift-words-requires c κs = omega (arith, blank-room _ (c .before .before .before .before .before .before .before .before .before .before .before .before .before .before .before .pre .1 .1 .4), top-op 0 0 (c .before .before .before .before .before .before .before .before .before .before .before .before .before .before .before .args .node) (c .before .before .before .before .before .before .before .before .before .before .before .before .before .before .before .args .v) opSll (c .before .before .if9 .taken))
 
 same-length-17 : tie.Need-same-length-17
 same-length-17 c = search needs
@@ -145,7 +146,7 @@ returns-9 c = plain-op _ _ _ _ _ _ _ (c .before .before .before .before .before 
 
 shift-words-requires-2 : tie.Need-shift-words-requires-2
 unfolding opGates shiftGates
-shift-words-requires-2 c κs = omega (arith, blank-room _ (c .before .before .before .before .before .before .before .before .before .before .before .before .before .before .before .before .pre .1 .1 .4), plain-room (c .before .before .before .before .before .before .before .before .before .before .before .before .before .before .before .before .args .node) (c .before .before .before .before .before .before .before .before .before .before .before .before .before .before .before .before .args .v) opSrl (c .before .before .if10 .taken) (c .before .before .before .before .before .before .before .before .before .before .before .before .before .before .before .before .pre .1 .0 .1))
+shift-words-requires-2 c κs = omega (arith, blank-room _ (c .before .before .before .before .before .before .before .before .before .before .before .before .before .before .before .before .pre .1 .1 .4), top-op 0 0 (c .before .before .before .before .before .before .before .before .before .before .before .before .before .before .before .before .args .node) (c .before .before .before .before .before .before .before .before .before .before .before .before .before .before .before .before .args .v) opSrl (c .before .before .if10 .taken))
 
 same-length-19 : tie.Need-same-length-19
 same-length-19 c = search needs

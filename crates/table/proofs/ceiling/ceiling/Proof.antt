@@ -26,22 +26,12 @@ returns-2 : tie.Need-returns-2
 unfolding top.ceiling
 returns-2 c = (search (needs, pick-true, pick-false, told-true, told-false), omega arith)
 
-shifts-requires : tie.Need-shifts-requires
-shifts-requires c κs = search needs
-
-shift-gates-requires : tie.Need-shift-gates-requires
-shift-gates-requires c κs = search needs
+plain-gates-requires : tie.Need-plain-gates-requires
+plain-gates-requires c κs = search needs
 
 returns-3 : tie.Need-returns-3
 unfolding top.ceiling
 returns-3 c = (search (needs, pick-true, pick-false, told-true, told-false), omega arith)
-
-plain-gates-requires : tie.Need-plain-gates-requires
-plain-gates-requires c κs = search needs
-
-returns-4 : tie.Need-returns-4
-unfolding top.ceiling
-returns-4 c = (search (needs, pick-true, pick-false, told-true, told-false), omega arith)
 
 pub ceiling-spec : {M : Type 1} → statement M
 ceiling-spec =
@@ -53,8 +43,5 @@ ceiling-spec =
     divides-requires
     div-gates-requires
     returns-2
-    shifts-requires
-    shift-gates-requires
-    returns-3
     plain-gates-requires
-    returns-4)
+    returns-3)
