@@ -1,7 +1,7 @@
 //! The original as judge.
 //!
 //!     compare COUNT SEED         tries the named differences, and compares so many random tables of the shared domain
-//!     compare list COUNT SEED    writes so many of the original's answers, as crates/rust_run reads them
+//!     compare list COUNT SEED    writes so many of the original's answers, as tests/replay reads them
 mod compare;
 mod generate;
 mod list;
