@@ -1,4 +1,5 @@
 //! The tables that are measured.
+pub use ramstitcher::kind::*;
 
 /// A node table: six numbers a node, the listed addresses and the word width.
 #[derive(Clone, Default)]
@@ -7,20 +8,6 @@ pub struct Table {
     pub addresses: Vec<u64>,
     pub word: u64,
 }
-
-pub const INPUT: u64 = 2;
-pub const BAD: u64 = 5;
-pub const AND: u64 = 6;
-pub const EQ: u64 = 8;
-pub const ADD: u64 = 9;
-pub const ITE: u64 = 10;
-pub const MUL: u64 = 13;
-pub const DIVU: u64 = 14;
-pub const READ: u64 = 16;
-pub const WRITE: u64 = 17;
-pub const OR: u64 = 18;
-pub const SLL: u64 = 20;
-pub const SRL: u64 = 21;
 
 impl Table {
     fn new(word: u64) -> Table {

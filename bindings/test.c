@@ -18,11 +18,16 @@ static int failed = 0;
 
 static void lower_not(void) {
     const uint64_t table[] = {
-        2, 1, 0, 0, 0, 0, /* input */
-        4, 1, 1, 0, 0, 0, /* not */
-        5, 1, 2, 0, 0, 0, /* bad */
+        RAMSTITCHER_NODE_INPUT, 1, 0, 0, 0, 0,
+        RAMSTITCHER_NODE_NOT, 1, 1, 0, 0, 0,
+        RAMSTITCHER_NODE_BAD, 1, 2, 0, 0, 0,
     };
-    const uint32_t wanted[] = {0, 0, 0, 0, 1, 0, 0, 0, 2, 1, 0, 0, 3, 2, 0, 0};
+    const uint32_t wanted[] = {
+        RAMSTITCHER_GATE_CONST_FALSE, 0, 0, 0,
+        RAMSTITCHER_GATE_CONST_TRUE, 0, 0, 0,
+        RAMSTITCHER_GATE_INPUT_BIT, 1, 0, 0,
+        RAMSTITCHER_GATE_NOT, 2, 0, 0,
+    };
     const uint64_t none[1] = {0};
     uint32_t gates[24], constraints[2] = {7, 7}, map[4];
     size_t node = 9, made = 9, held = 9;
@@ -69,10 +74,10 @@ static void words(void) {
     /* W = 2, addresses 0 and 2: a memory, a read of it, and a sum */
     const uint64_t addresses[] = {0, 2};
     const uint64_t table[] = {
-        2, 0, 0, 0, 0, 0,  /* input, a memory */
-        1, 2, 0, 0, 0, 2,  /* const 2 */
-        16, 2, 1, 2, 0, 0, /* read */
-        9, 2, 3, 2, 0, 0,  /* add */
+        RAMSTITCHER_NODE_INPUT, 0, 0, 0, 0, 0, /* a memory */
+        RAMSTITCHER_NODE_CONST, 2, 0, 0, 0, 2,
+        RAMSTITCHER_NODE_READ, 2, 1, 2, 0, 0,
+        RAMSTITCHER_NODE_ADD, 2, 3, 2, 0, 0,
     };
     uint64_t values[6] = {3, 1, 0, 0, 0, 77};
     size_t node = 9;
@@ -86,22 +91,22 @@ static void words(void) {
 static void divide(void) {
     /* width 4: the ceilings are 111 gates and 16 constraints; by a divisor that is known to be zero the quotient is all ones, without a constraint */
     uint64_t table[] = {
-        2, 4, 0, 0, 0, 0,  /* input */
-        2, 4, 0, 0, 0, 0,  /* input */
-        14, 4, 1, 2, 0, 0, /* divu */
-        8, 1, 3, 1, 0, 0,  /* eq */
-        5, 1, 4, 0, 0, 0,  /* bad */
+        RAMSTITCHER_NODE_INPUT, 4, 0, 0, 0, 0,
+        RAMSTITCHER_NODE_INPUT, 4, 0, 0, 0, 0,
+        RAMSTITCHER_NODE_DIVU, 4, 1, 2, 0, 0,
+        RAMSTITCHER_NODE_EQ, 1, 3, 1, 0, 0,
+        RAMSTITCHER_NODE_BAD, 1, 4, 0, 0, 0,
     };
     const uint64_t none[1] = {0};
-    uint32_t gates[4 * 132], constraints[32], map[14];
-    size_t node, made, held;
-    uint64_t room_gates, room_constraints, room_map;
+    uint32_t gates[4 * 132] = {0}, constraints[32] = {0}, map[14] = {0};
+    size_t node = 9, made = 9, held = 9;
+    uint64_t room_gates = 9, room_constraints = 9, room_map = 9;
     EXPECT(ramstitcher_room(table, COUNT(table), none, 0, 64, &node, &room_gates, &room_constraints, &room_map) == RAMSTITCHER_DONE);
     EXPECT(node == 0 && room_gates == 132 && room_constraints == 16 && room_map == 14);
     EXPECT(ramstitcher_lower(table, COUNT(table), none, 0, 64, gates, COUNT(gates), constraints, 32, map, 14, &node, &made, &held) == RAMSTITCHER_DONE);
     EXPECT(node == 0 && made <= 132 && held == 16);
     EXPECT(ramstitcher_lower(table, COUNT(table), none, 0, 64, gates, COUNT(gates), constraints, 31, map, 14, &node, &made, &held) == RAMSTITCHER_CONSTRAINT_ROOM);
-    table[6] = 1; /* the divisor is the const 0 */
+    table[6] = RAMSTITCHER_NODE_CONST; /* the divisor is the const 0 */
     EXPECT(ramstitcher_lower(table, COUNT(table), none, 0, 64, gates, COUNT(gates), constraints, 32, map, 14, &node, &made, &held) == RAMSTITCHER_DONE);
     EXPECT(node == 0 && made == 9 && held == 0);
     for (size_t i = 8; i < 12; i++) EXPECT(map[i] == 1);

@@ -1,11 +1,25 @@
-// The Rust wrapper against the library, with a model beyond the program's rooms: 512 nodes, each word 64 wide.
-use ramstitcher::{eval_gates, eval_words, lower, room, Lowered, Refusal, Room, CONSTRAINT, GATE, UNREACHED};
+// The Rust wrapper against the library, with a model beyond the program's rooms: 512 nodes, each word 64 wide; and against the header.
+use ramstitcher::{eval_gates, eval_words, gate, kind, lower, room, Lowered, Refusal, Room, CONSTRAINT, GATE, NODE, STACK, UNREACHED};
+
+// The numbers that the header has are those of the wrapper.
+fn same_numbers() {
+    let header = include_str!("ramstitcher.h");
+    let lines: Vec<&str> = header.lines().map(|line| line.split(" /*").next().unwrap_or("").trim().trim_end_matches(',')).collect();
+    let says = |line: String| assert!(lines.contains(&line.as_str()), "the header does not say {line}");
+    kind::ALL.iter().for_each(|(number, name)| says(format!("RAMSTITCHER_NODE_{name} = {number}")));
+    gate::ALL.iter().for_each(|(number, name)| says(format!("RAMSTITCHER_GATE_{name} = {number}")));
+    for (name, number) in [("NODE", NODE), ("GATE", GATE), ("CONSTRAINT", CONSTRAINT), ("STACK", STACK)] {
+        says(format!("#define RAMSTITCHER_{name} {number}"));
+    }
+    says(format!("#define RAMSTITCHER_UNREACHED UINT32_C({UNREACHED})"));
+}
 
 fn first_table() {
-    let table = [[2, 1, 0, 0, 0, 0], [4, 1, 1, 0, 0, 0], [5, 1, 2, 0, 0, 0]].concat();
+    let table = [[kind::INPUT, 1, 0, 0, 0, 0], [kind::NOT, 1, 1, 0, 0, 0], [kind::BAD, 1, 2, 0, 0, 0]].concat();
     let (mut gates, mut map) = ([0u32; 16], [0u32; 3]);
     assert_eq!(lower(&table, &[], 2, &mut gates, &mut [], &mut map), Ok(Lowered { gates: 4, constraints: 0 }));
-    assert_eq!(gates, [0, 0, 0, 0, 1, 0, 0, 0, 2, 1, 0, 0, 3, 2, 0, 0]);
+    let wanted = [[gate::CONST_FALSE, 0, 0, 0], [gate::CONST_TRUE, 0, 0, 0], [gate::INPUT_BIT, 1, 0, 0], [gate::NOT, 2, 0, 0]];
+    assert_eq!(gates, *wanted.as_flattened());
     assert_eq!(map, [2, 3, 3]);
     let mut values = [9, 9, 0, 9];
     assert_eq!(eval_gates(&gates, &mut values), Ok(()));
@@ -24,14 +38,14 @@ fn first_table() {
 
 // Squares summed up: the bits that the gates give are the words that the word evaluator gives.
 fn large_model() {
-    let mut table = vec![[2u64, 64, 0, 0, 0, 0], [2, 64, 0, 0, 0, 0]];
+    let mut table = vec![[kind::INPUT, 64, 0, 0, 0, 0]; 2];
     while table.len() < 510 {
         let last = table.len() as u64;
-        let kind = if last % 50 == 3 { 13 } else { 9 };
-        table.push([kind, 64, last, 1 + last % 2, 0, 0]);
+        let operation = if last % 50 == 3 { kind::MUL } else { kind::ADD };
+        table.push([operation, 64, last, 1 + last % 2, 0, 0]);
     }
-    table.push([8, 1, 510, 1, 0, 0]);
-    table.push([5, 1, 511, 0, 0, 0]);
+    table.push([kind::EQ, 1, 510, 1, 0, 0]);
+    table.push([kind::BAD, 1, 511, 0, 0, 0]);
     let flat = table.concat();
     let Room { gates: room, constraints: 0, map: places } = room(&flat, &[], 64).unwrap() else { panic!("constraints") };
     let (mut gates, mut map) = (vec![0u32; GATE * room], vec![0u32; places + 1]);
@@ -60,6 +74,7 @@ fn large_model() {
 }
 
 fn main() {
+    same_numbers();
     first_table();
     large_model();
     println!("bindings, Rust: ok");

@@ -4,7 +4,7 @@
 mod model;
 
 use model::Table;
-use ramstitcher::{Lowered, Refusal, Room};
+use ramstitcher::{gate, kind::*, Lowered, Refusal, Room};
 
 /// xorshift64*
 struct Random(u64);
@@ -92,7 +92,7 @@ fn table(r: &mut Random) -> (Vec<u64>, Vec<u64>, u64) {
     let usual = r.pick(&[1, 2, 2, 3, 3, 4, word]);
     for _ in 0..nodes {
         let mut node = good_node(r, &widths, usual, word);
-        if matches!(node[0], 20 | 21) && node[1] != 0 {
+        if matches!(node[0], SLL | SRL) && node[1] != 0 {
             for part in amount(r, widths.len() as u64, node[1], node[3]) {
                 widths.push(part[1]);
                 flat.extend(part);
@@ -113,8 +113,8 @@ fn table(r: &mut Random) -> (Vec<u64>, Vec<u64>, u64) {
         let width = widths[k as usize - 1];
         let other = words.iter().copied().rev().find(|&j| widths[j as usize - 1] == width && j != k).unwrap_or(k);
         let last = widths.len() as u64;
-        let pair = [[8, 1, k, other, 0, 0], [5, 1, last + 1, 0, 0, 0]];
-        let bad = if width == 1 { &[[5, 1, k, 0, 0, 0]][..] } else { &pair[..] };
+        let pair = [[EQ, 1, k, other, 0, 0], [BAD, 1, last + 1, 0, 0, 0]];
+        let bad = if width == 1 { &[[BAD, 1, k, 0, 0, 0]][..] } else { &pair[..] };
         for node in bad {
             widths.push(1);
             flat.extend(node);
@@ -147,10 +147,10 @@ fn amount(r: &mut Random, last: u64, width: u64, b: u64) -> Vec<[u64; 6]> {
         1 | 2 => width - 1 + r.below(3),
         _ => r.below(width),
     } & u64::MAX >> (64 - width);
-    let number = [1, width, 0, 0, 0, number];
+    let number = [CONST, width, 0, 0, 0, number];
     match r.below(4) {
         0 | 1 => vec![number],
-        2 => vec![number, [6, width, b, last + 1, 0, 0]],
+        2 => vec![number, [AND, width, b, last + 1, 0, 0]],
         _ => vec![],
     }
 }
@@ -184,30 +184,32 @@ fn good_node(r: &mut Random, widths: &[u64], usual: u64, word: u64) -> [u64; 6] 
         }
     };
     let leaf = |r: &mut Random, width: u64| match r.below(3) {
-        0 if width != 0 => [1, width, 0, 0, 0, if r.one_in(4) { 0 } else { r.next() & u64::MAX >> (64 - width) }],
-        1 => [3, width, 0, 0, 0, 0],
-        _ => [2, width, 0, 0, 0, 0],
+        0 if width != 0 => [CONST, width, 0, 0, 0, if r.one_in(4) { 0 } else { r.next() & u64::MAX >> (64 - width) }],
+        1 => [STATE, width, 0, 0, 0, 0],
+        _ => [INPUT, width, 0, 0, 0, 0],
     };
     let width = r.pick(&[usual, usual, usual, 1, word, 0]);
-    let kind = r.pick(&[1, 2, 3, 4, 5, 6, 7, 8, 9, 10, 11, 12, 13, 14, 15, 16, 17, 18, 20, 20, 21, 21, 24, 24]);
+    let kind = r.pick(&[
+        CONST, INPUT, STATE, NOT, BAD, AND, EXT, EQ, ADD, ITE, SUB, ULT, MUL, DIVU, REM, READ, WRITE, OR, SLL, SLL, SRL, SRL, SEXT, SEXT,
+    ]);
     let node = match kind {
-        1..=3 => return if r.one_in(8) { [3, width, of(r, width), 0, 0, 0] } else { leaf(r, width) },
-        4 => [4, width, of(r, width), 0, 0, 0],
-        5 => [5, 1, of(r, 1), 0, 0, 0],
-        7 | 24 => extension(r, kind, widths, usual, word),
-        8 | 12 => {
+        CONST | INPUT | STATE => return if r.one_in(8) { [STATE, width, of(r, width), 0, 0, 0] } else { leaf(r, width) },
+        NOT => [NOT, width, of(r, width), 0, 0, 0],
+        BAD => [BAD, 1, of(r, 1), 0, 0, 0],
+        EXT | SEXT => extension(r, kind, widths, usual, word),
+        EQ | ULT => {
             let v = r.pick(&[usual, word, 1]);
             [kind, 1, of(r, v), of(r, v), 0, 0]
         }
-        10 => [10, width, of(r, 1), of(r, width), of(r, width), 0],
-        16 => [16, word, of(r, 0), of(r, word), 0, 0],
-        17 => [17, 0, of(r, 0), of(r, word), of(r, word), 0],
+        ITE => [ITE, width, of(r, 1), of(r, width), of(r, width), 0],
+        READ => [READ, word, of(r, 0), of(r, word), 0, 0],
+        WRITE => [WRITE, 0, of(r, 0), of(r, word), of(r, word), 0],
         _ => [kind, width, of(r, width), of(r, width), 0, 0],
     };
     // an operand that is missing, or a word's operation on a memory: a leaf in its place, now and then the fault
-    let used = [1, 2, 3].map(|i| i == 1 || (i == 2 && !matches!(kind, 4 | 5 | 7 | 24)) || (i == 3 && matches!(kind, 10 | 17)));
+    let used = [1, 2, 3].map(|i| i == 1 || (i == 2 && !matches!(kind, NOT | BAD | EXT | SEXT)) || (i == 3 && matches!(kind, ITE | WRITE)));
     let missing = (0..3).any(|i| used[i] && node[2 + i] == 0);
-    if (missing || (width == 0 && !matches!(kind, 5 | 7 | 8 | 10 | 12 | 16 | 17 | 24))) && !r.one_in(32) {
+    if (missing || (width == 0 && !matches!(kind, BAD | EXT | EQ | ITE | ULT | READ | WRITE | SEXT))) && !r.one_in(32) {
         let width = r.pick(&[width, 1, word, 0]);
         return leaf(r, width);
     }
@@ -233,10 +235,10 @@ fn gates(r: &mut Random) -> Vec<u32> {
         let x = |r: &mut Random| r.below(i.max(1) as u64) as u32;
         list.extend(match i {
             0 | 1 => [i as u32, 0, 0, 0],
-            _ => match 2 + r.below(12) as u32 {
-                3 => [3, x(r), 0, 0],
-                k @ 4..=9 => [k, x(r), x(r), 0],
-                k @ 10..=11 => [k, x(r), x(r), x(r)],
+            _ => match gate::INPUT_BIT + r.below(12) as u32 {
+                gate::NOT => [gate::NOT, x(r), 0, 0],
+                k @ gate::AND..=gate::RESULT_HALF => [k, x(r), x(r), 0],
+                k @ (gate::CARRY_FULL | gate::RESULT_FULL) => [k, x(r), x(r), x(r)],
                 k => [k, r.any() as u32, r.any() as u32, 0],
             },
         });

@@ -3,33 +3,12 @@
 //! the comparison shows no more than that both agree.
 //! Each gives the whole answer: refusal, node, counts, and all that a lent buffer then holds.
 
-pub const UNREACHED: u32 = u32::MAX;
+use ramstitcher::{gate, kind::*, UNREACHED};
 
 /// A refusal's number and the node or gate beside it; (0, 0) is none.
 pub type Answer = (u64, usize);
 
 const DONE: Answer = (0, 0);
-const CONST: u64 = 1;
-const INPUT: u64 = 2;
-const STATE: u64 = 3;
-const NOT: u64 = 4;
-const BAD: u64 = 5;
-const AND: u64 = 6;
-const EXT: u64 = 7;
-const EQ: u64 = 8;
-const ADD: u64 = 9;
-const ITE: u64 = 10;
-const SUB: u64 = 11;
-const ULT: u64 = 12;
-const MUL: u64 = 13;
-const DIVU: u64 = 14;
-const REM: u64 = 15;
-const READ: u64 = 16;
-const WRITE: u64 = 17;
-const OR: u64 = 18;
-const SLL: u64 = 20;
-const SRL: u64 = 21;
-const SEXT: u64 = 24;
 
 fn below(x: u64, width: u64) -> bool {
     width >= 64 || x >> width == 0
@@ -108,10 +87,10 @@ impl Table<'_> {
         }
         for k in 1..=self.nodes() {
             let d = self.node(k);
-            if !(1..=24).contains(&d.kind) {
+            if !ALL.iter().any(|&(kind, _)| kind == d.kind) {
                 return (3, k);
             }
-            if matches!(d.kind, 19 | 22 | 23) {
+            if matches!(d.kind, DIV | NEXT | COMMENT) {
                 return (4, k);
             }
             if !self.operands(k, d) {
@@ -299,7 +278,7 @@ impl Net {
         if known(x) {
             1 - x
         } else {
-            self.make(3, x, 0, 0)
+            self.make(gate::NOT, x, 0, 0)
         }
     }
 
@@ -307,7 +286,7 @@ impl Net {
         match (x, y) {
             (0, _) | (_, 0) => 0,
             (1, z) | (z, 1) => z,
-            _ => self.make(4, x, y, 0),
+            _ => self.make(gate::AND, x, y, 0),
         }
     }
 
@@ -315,7 +294,7 @@ impl Net {
         match (x, y) {
             (1, _) | (_, 1) => 1,
             (0, z) | (z, 0) => z,
-            _ => self.make(6, x, y, 0),
+            _ => self.make(gate::OR, x, y, 0),
         }
     }
 
@@ -324,7 +303,7 @@ impl Net {
             (1, z) | (z, 1) => z,
             (0, z) | (z, 0) => self.not(z),
             _ => {
-                let half = self.make(9, x, y, 0);
+                let half = self.make(gate::RESULT_HALF, x, y, 0);
                 self.not(half)
             }
         }
@@ -337,12 +316,12 @@ impl Net {
             (&[x, y, z], _) => ((x + y + z) % 2, (x + y + z) / 2),
             (&[x, y], &[z]) if x == y => (z, x),
             (_, &[z]) => (self.not(z), z),
-            (&[0], &[x, y]) => (self.make(9, x, y, 0), self.make(8, x, y, 0)),
+            (&[0], &[x, y]) => (self.make(gate::RESULT_HALF, x, y, 0), self.make(gate::CARRY_HALF, x, y, 0)),
             (_, &[x, y]) => {
-                let half = self.make(9, x, y, 0);
+                let half = self.make(gate::RESULT_HALF, x, y, 0);
                 (self.not(half), self.or(x, y))
             }
-            _ => (self.make(11, left, right, carry), self.make(10, left, right, carry)),
+            _ => (self.make(gate::RESULT_FULL, left, right, carry), self.make(gate::CARRY_FULL, left, right, carry)),
         }
     }
 
@@ -383,7 +362,7 @@ impl Net {
                         0
                     }
                 } else {
-                    self.make(7, c, f, 0)
+                    self.make(gate::MATRIARCH1, c, f, 0)
                 };
                 self.or(yes, no)
             }
@@ -463,8 +442,8 @@ impl Net {
         let w = num.len();
         let (mut quot, mut rem) = (Vec::new(), Vec::new());
         for bit in 0..w as u32 {
-            quot.push(self.make(12, node, bit, 0));
-            rem.push(self.make(13, node, bit, 0));
+            quot.push(self.make(gate::QUOTIENT, node, bit, 0));
+            rem.push(self.make(gate::REMAINDER, node, bit, 0));
         }
         let mut sum = vec![0; w];
         for i in 0..w {
@@ -519,7 +498,7 @@ impl Lowering<'_> {
         let (w, n) = (self.t.word as usize, self.t.addresses.len());
         let net = &mut self.net;
         let made = match d.kind {
-            _ if d.given() => (0..self.t.bits(d.width) as u32).map(|j| net.make(2, k as u32, j, 0)).collect(),
+            _ if d.given() => (0..self.t.bits(d.width) as u32).map(|j| net.make(gate::INPUT_BIT, k as u32, j, 0)).collect(),
             CONST => digits(d.imm, d.width as usize),
             STATE | BAD => x,
             EXT | SEXT => {
@@ -597,7 +576,7 @@ pub fn lower(t: Table, gates: &mut [u32], constraints: &mut [u32], map: &mut [u3
             return ((number, 0), 0, 0);
         }
     }
-    let net = Net { gates: vec![[0, 0, 0, 0], [1, 0, 0, 0]], constraints: Vec::new() };
+    let net = Net { gates: vec![[gate::CONST_FALSE, 0, 0, 0], [gate::CONST_TRUE, 0, 0, 0]], constraints: Vec::new() };
     let mut run = Lowering { t, net, bits: vec![None; t.nodes() + 1] };
     for k in 1..=t.nodes() {
         if t.node(k).kind == BAD {
@@ -625,18 +604,17 @@ pub fn eval_gates(gates: &[u32], values: &mut [u8]) -> Answer {
         return (11, 0);
     }
     let n = gates.len() / 4;
-    let free = |i: usize| matches!(gates[4 * i], 2 | 12 | 13);
+    let free = |kind: u32| matches!(kind, gate::INPUT_BIT | gate::QUOTIENT | gate::REMAINDER);
     for (i, g) in gates.chunks(4).enumerate() {
         let used = match g[0] {
-            2 | 12 | 13 => 0,
-            3 => 1,
-            4..=9 => 2,
-            _ => 3,
+            gate::NOT => 1,
+            gate::CARRY_FULL | gate::RESULT_FULL => 3,
+            _ => 2,
         };
         let sound = match (i, g[0]) {
             (0, _) | (1, _) => g == [i as u32, 0, 0, 0],
-            (_, 2 | 12 | 13) => g[3] == 0,
-            (_, 3..=11) => g[1..].iter().enumerate().all(|(j, &x)| if j < used { (x as usize) < i } else { x == 0 }),
+            (_, kind) if free(kind) => g[3] == 0,
+            (_, gate::NOT..=gate::RESULT_FULL) => g[1..].iter().enumerate().all(|(j, &x)| if j < used { (x as usize) < i } else { x == 0 }),
             _ => false,
         };
         if !sound {
@@ -646,22 +624,22 @@ pub fn eval_gates(gates: &[u32], values: &mut [u8]) -> Answer {
     if values.len() < n {
         return (12, 0);
     }
-    if let Some(i) = (0..n).find(|&i| free(i) && values[i] > 1) {
+    if let Some(i) = (0..n).find(|&i| free(gates[4 * i]) && values[i] > 1) {
         return (13, i);
     }
     for i in 0..n {
         let [x, y, z] = [1, 2, 3].map(|j| values.get(gates[4 * i + j] as usize).copied().unwrap_or(0));
         values[i] = match gates[4 * i] {
-            0 => 0,
-            1 => 1,
-            3 => 1 - x,
-            4 | 8 => x & y,
-            5 => 1 - (x & y),
-            6 => x | y,
-            7 => (1 - x) & y,
-            9 => x ^ y,
-            10 => (x & y) | (x & z) | (y & z),
-            11 => x ^ y ^ z,
+            gate::CONST_FALSE => 0,
+            gate::CONST_TRUE => 1,
+            gate::NOT => 1 - x,
+            gate::AND | gate::CARRY_HALF => x & y,
+            gate::NAND => 1 - (x & y),
+            gate::OR => x | y,
+            gate::MATRIARCH1 => (1 - x) & y,
+            gate::RESULT_HALF => x ^ y,
+            gate::CARRY_FULL => (x & y) | (x & z) | (y & z),
+            gate::RESULT_FULL => x ^ y ^ z,
             _ => continue,
         };
     }

@@ -1,30 +1,6 @@
 //! Tables, and the form in which the two answers are held against each other.
 
-pub const CONST: u64 = 1;
-pub const INPUT: u64 = 2;
-pub const STATE: u64 = 3;
-pub const NOT: u64 = 4;
-pub const BAD: u64 = 5;
-pub const AND: u64 = 6;
-pub const EXT: u64 = 7;
-pub const EQ: u64 = 8;
-pub const ADD: u64 = 9;
-pub const ITE: u64 = 10;
-pub const SUB: u64 = 11;
-pub const ULT: u64 = 12;
-pub const MUL: u64 = 13;
-pub const DIVU: u64 = 14;
-pub const REM: u64 = 15;
-pub const READ: u64 = 16;
-pub const WRITE: u64 = 17;
-pub const OR: u64 = 18;
-pub const SLL: u64 = 20;
-pub const SRL: u64 = 21;
-
-const NAMES: [&str; 22] = [
-    "none", "const", "input", "state", "not", "bad", "and", "ext", "eq", "add", "ite", "sub", "ult", "mul", "divu", "rem", "read", "write", "or", "div",
-    "sll", "srl",
-];
+pub use ramstitcher::kind::*;
 
 /// The widths that the original's `NodeType` has.
 pub const WIDTHS: [u64; 9] = [1, 8, 16, 24, 32, 40, 48, 56, 64];
@@ -60,6 +36,11 @@ pub fn mask(width: u64) -> u64 {
     u64::MAX >> (64 - width)
 }
 
+/// A kind's name, as a table's text has it.
+fn name(kind: u64) -> String {
+    ALL.iter().find(|(number, _)| *number == kind).map_or("none", |(_, name)| name).to_lowercase()
+}
+
 impl Table {
     pub fn flat(&self) -> Vec<u64> {
         self.nodes.iter().flat_map(|n| [n.kind, n.width, n.operands[0] as u64, n.operands[1] as u64, n.operands[2] as u64, n.imm]).collect()
@@ -69,7 +50,7 @@ impl Table {
     pub fn line(&self) -> String {
         let mut words = Vec::new();
         for (i, n) in self.nodes.iter().enumerate() {
-            let mut word = format!("{}: {} {}", i + 1, NAMES[n.kind as usize], n.width);
+            let mut word = format!("{}: {} {}", i + 1, name(n.kind), n.width);
             let operands: Vec<String> = n.operands.iter().filter(|k| **k != 0).map(usize::to_string).collect();
             if !operands.is_empty() {
                 word += &format!(" ({})", operands.join(","));

@@ -1,10 +1,6 @@
 //! The port's answer, through the static library.
 use crate::model::*;
-use ramstitcher::{eval_gates, eval_words, lower, Refusal, CONSTRAINT, GATE, UNREACHED};
-
-const INPUT_BIT: u32 = 2;
-const QUOTIENT: u32 = 12;
-const REMAINDER: u32 = 13;
+use ramstitcher::{eval_gates, eval_words, gate, lower, Refusal, CONSTRAINT, GATE, UNREACHED};
 
 /// Buffers that are lent again and again, larger than any drawn table needs.
 pub struct Ours {
@@ -22,14 +18,14 @@ impl Ours {
     /// Each free gate gets its bit, and the list is evaluated. A division's free gates take theirs from one quotient and one remainder.
     fn values(&mut self, made: usize, given: &Given, quotient: u64, remainder: u64) -> Result<(), Refusal> {
         self.bytes.clear();
-        for gate in self.gates[..GATE * made].chunks(GATE) {
-            let word = match gate[0] {
-                INPUT_BIT => given[gate[1] as usize - 1],
-                QUOTIENT => quotient,
-                REMAINDER => remainder,
+        for record in self.gates[..GATE * made].chunks(GATE) {
+            let word = match record[0] {
+                gate::INPUT_BIT => given[record[1] as usize - 1],
+                gate::QUOTIENT => quotient,
+                gate::REMAINDER => remainder,
                 _ => 0,
             };
-            self.bytes.push(if word == 0 { 0 } else { (word >> gate[2] & 1) as u8 });
+            self.bytes.push(if word == 0 { 0 } else { (word >> record[2] & 1) as u8 });
         }
         eval_gates(&self.gates[..GATE * made], &mut self.bytes)
     }

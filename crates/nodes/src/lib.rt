@@ -1,6 +1,6 @@
 // The own step of a node: its gates and bits, kind by kind.
 pub mod choose; // an ite with an unknown condition
-pub mod divide; // a division, and refusal 10's test
+pub mod divide; // a division
 pub mod input; // an input or an uninitialised state
 pub mod operand; // which operands are visited
 pub mod own; // a node's own step, by its kind

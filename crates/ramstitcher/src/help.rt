@@ -39,7 +39,8 @@ or one line, refused NUMBER NODE (NODE is 0 where no single node is at fault):
 13 INPUT           to an evaluator: a given value is out of range
 14 NOTHING ASKED   no bad node, so no question: were lines lost on the way?
 Where the last line is neither done nor refused there is no answer: standard
-error says what failed. The exit status is 0 even then, so test that line.
+error says what failed. The exit status is 0 even then, so test that line. A
+pipe that is closed before all is written ends it by a signal, SIGPIPE.
 ",
     )
 }
