@@ -1,22 +1,13 @@
 //! The edges: tables and answers that are made here, and not read. None of them lists an address.
 use crate::lowering::{lent, only};
-use ramstitcher::{Lowered, Refusal, CONSTRAINT, GATE};
-
-const CONST: u64 = 1;
-const INPUT: u64 = 2;
-const NOT: u64 = 4;
-const BAD: u64 = 5;
-const EQ: u64 = 8;
-const ITE: u64 = 10;
-const DIVU: u64 = 14;
-const READ: u64 = 16;
-const WRITE: u64 = 17;
+use ramstitcher::kind::*;
+use ramstitcher::{gate, Lowered, Refusal, CONSTRAINT, GATE};
 
 fn node(kind: u64, width: u64, a: u64, b: u64, c: u64) -> [u64; 6] {
     [kind, width, a, b, c, 0]
 }
 
-fn gate(kind: u32, x: u32, y: u32) -> [u32; GATE] {
+fn record(kind: u32, x: u32, y: u32) -> [u32; GATE] {
     [kind, x, y, 0]
 }
 
@@ -38,8 +29,8 @@ fn not_chain(n: u64) -> Vec<[u64; 6]> {
 
 /// The two constants, and the bits of an input.
 fn input_gates(of: u32, width: u32) -> Vec<[u32; GATE]> {
-    let mut gates = vec![gate(0, 0, 0), gate(1, 0, 0)];
-    gates.extend((0..width).map(|j| gate(2, of, j)));
+    let mut gates = vec![record(gate::CONST_FALSE, 0, 0), record(gate::CONST_TRUE, 0, 0)];
+    gates.extend((0..width).map(|j| record(gate::INPUT_BIT, of, j)));
     gates
 }
 
@@ -52,7 +43,7 @@ fn leaves(table: &[[u64; 6]], word: u64, room: [usize; 3], answer: Result<Lowere
 /// 512 nodes pass.
 fn most_nodes() -> bool {
     let mut gates = input_gates(1, 1);
-    gates.extend((3..=512).map(|i| gate(3, i - 1, 0)));
+    gates.extend((3..=512).map(|i| record(gate::NOT, i - 1, 0)));
     let mut map: Vec<u32> = (2..513).collect();
     map.push(512);
     leaves(&not_chain(512), 1, [GATE * 515, 2, 514], done(513, 0), &gates, &map)

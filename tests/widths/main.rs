@@ -1,10 +1,8 @@
 //! Every operation at every small width, over words that are all given, tried at every input. The gates that the lowering makes are evaluated and their
 //! bits read as numbers; these are held against the word evaluator's and against the numbers of BTOR2, which stand here once more as plain Rust.
 //! Of a division every value of the Quotient and Remainder gates is tried at every input: exactly one must meet the constraints.
-use ramstitcher::{eval_gates, eval_words, lower, room, CONSTRAINT, GATE};
-
-const INPUT_BIT: u32 = 2;
-const INPUT: u64 = 2;
+use ramstitcher::kind::*;
+use ramstitcher::{eval_gates, eval_words, gate, lower, room, CONSTRAINT, GATE};
 
 /// Greatest number of a width.
 fn ones(w: u64) -> u64 {
@@ -33,20 +31,20 @@ const fn unary(name: &'static str, kind: u64, width: fn(u64) -> u64, value: fn(u
 }
 
 const OPERATIONS: [Operation; 14] = [
-    unary("not", 4, |w| w, |w, x, _| !x & ones(w)),
-    binary("and", 6, |_, x, y| x & y),
-    binary("or", 18, |_, x, y| x | y),
-    unary("ext", 7, |w| w + 2, |_, x, _| x),
-    unary("sext", 24, |w| w + 2, |w, x, _| if x >> (w - 1) == 1 { x | 3 << w } else { x }),
-    comparison("eq", 8, |_, x, y| (x == y).into()),
-    comparison("ult", 12, |_, x, y| (x < y).into()),
-    binary("add", 9, |w, x, y| (x + y) & ones(w)),
-    binary("sub", 11, |w, x, y| x.wrapping_sub(y) & ones(w)),
-    binary("mul", 13, |w, x, y| x * y & ones(w)),
-    binary("sll", 20, |w, x, y| if y < w { x << y & ones(w) } else { 0 }),
-    binary("srl", 21, |w, x, y| if y < w { x >> y } else { 0 }),
-    binary("divu", 14, |w, x, y| x.checked_div(y).unwrap_or(ones(w))),
-    binary("rem", 15, |_, x, y| x.checked_rem(y).unwrap_or(x)),
+    unary("not", NOT, |w| w, |w, x, _| !x & ones(w)),
+    binary("and", AND, |_, x, y| x & y),
+    binary("or", OR, |_, x, y| x | y),
+    unary("ext", EXT, |w| w + 2, |_, x, _| x),
+    unary("sext", SEXT, |w| w + 2, |w, x, _| if x >> (w - 1) == 1 { x | 3 << w } else { x }),
+    comparison("eq", EQ, |_, x, y| (x == y).into()),
+    comparison("ult", ULT, |_, x, y| (x < y).into()),
+    binary("add", ADD, |w, x, y| (x + y) & ones(w)),
+    binary("sub", SUB, |w, x, y| x.wrapping_sub(y) & ones(w)),
+    binary("mul", MUL, |w, x, y| x * y & ones(w)),
+    binary("sll", SLL, |w, x, y| if y < w { x << y & ones(w) } else { 0 }),
+    binary("srl", SRL, |w, x, y| if y < w { x >> y } else { 0 }),
+    binary("divu", DIVU, |w, x, y| x.checked_div(y).unwrap_or(ones(w))),
+    binary("rem", REM, |_, x, y| x.checked_rem(y).unwrap_or(x)),
 ];
 
 /// A table that was lowered: its gates, its constraints (gate, value), and the bit map.
@@ -76,7 +74,7 @@ impl Lowered {
     /// All values, where each InputBit has its digit of its node's number and the other free gates have those of `guess`.
     fn values(&self, given: &[u64], guessed: &[usize], guess: u64) -> Vec<u8> {
         let mut values = vec![0; self.gates.len() / GATE];
-        for (i, g) in self.gates.chunks(GATE).enumerate().filter(|(_, g)| g[0] == INPUT_BIT) {
+        for (i, g) in self.gates.chunks(GATE).enumerate().filter(|(_, g)| g[0] == gate::INPUT_BIT) {
             values[i] = (given[g[1] as usize - 1] >> g[2] & 1) as u8;
         }
         for (j, i) in guessed.iter().enumerate() {
@@ -97,7 +95,7 @@ impl Lowered {
 
     /// Exactly one choice of the Quotient and Remainder gates meets the constraints: the values under it.
     fn one(&self, given: &[u64]) -> Option<Vec<u8>> {
-        let guessed = self.free(|kind| kind == 12 || kind == 13);
+        let guessed = self.free(|kind| kind == gate::QUOTIENT || kind == gate::REMAINDER);
         let mut met = (0..1 << guessed.len()).map(|guess| self.values(given, &guessed, guess)).filter(|values| self.met(values));
         let first = met.next();
         first.filter(|_| met.next().is_none())
@@ -114,7 +112,7 @@ fn report(name: &str, same: &[bool]) -> bool {
 /// The operation over two inputs w wide. Node 4 keeps it and the other input reached: a comparison of the result with itself asks nothing new of it.
 fn operation(o: &Operation, w: u64) -> Vec<bool> {
     let (width, two) = ((o.width)(w), if o.operands == 2 { 2 } else { 0 });
-    let table = [[INPUT, w, 0, 0, 0, 0], [INPUT, w, 0, 0, 0, 0], [o.kind, width, 1, two, 0, 0], [12, 1, 3, 3, 0, 0], [5, 1, 4, 0, 0, 0]].concat();
+    let table = [[INPUT, w, 0, 0, 0, 0], [INPUT, w, 0, 0, 0, 0], [o.kind, width, 1, two, 0, 0], [ULT, 1, 3, 3, 0, 0], [BAD, 1, 4, 0, 0, 0]].concat();
     let list = lowered(&table, &[], 1);
     let inputs = (0..1u64 << (2 * w)).map(|i| (i & ones(w), i >> w));
     inputs
@@ -130,7 +128,7 @@ fn operation(o: &Operation, w: u64) -> Vec<bool> {
 
 /// A choice by one given bit between two given words.
 fn choice(w: u64) -> Vec<bool> {
-    let table = [[INPUT, 1, 0, 0, 0, 0], [INPUT, w, 0, 0, 0, 0], [INPUT, w, 0, 0, 0, 0], [10, w, 1, 2, 3, 0], [12, 1, 4, 4, 0, 0], [5, 1, 5, 0, 0, 0]].concat();
+    let table = [[INPUT, 1, 0, 0, 0, 0], [INPUT, w, 0, 0, 0, 0], [INPUT, w, 0, 0, 0, 0], [ITE, w, 1, 2, 3, 0], [ULT, 1, 4, 4, 0, 0], [BAD, 1, 5, 0, 0, 0]].concat();
     let list = lowered(&table, &[], 1);
     (0..1u64 << (2 * w + 1))
         .map(|i| {
@@ -158,8 +156,8 @@ fn write(memory: u64, address: u64, value: u64) -> u64 {
 
 /// Memory, address and value are given; node 4 is the access, of so many bits. A write is read again at its own address, so that a bad node reaches it.
 fn access(node: [u64; 6], bits: usize, wanted: fn(u64, u64, u64) -> u64) -> Vec<bool> {
-    let reader = if node[0] == 17 { [16, 2, 4, 2, 0, 0] } else { [4, 2, 4, 0, 0, 0] };
-    let table = [[INPUT, 0, 0, 0, 0, 0], [INPUT, 2, 0, 0, 0, 0], [INPUT, 2, 0, 0, 0, 0], node, reader, [8, 1, 5, 3, 0, 0], [5, 1, 6, 0, 0, 0]].concat();
+    let reader = if node[0] == WRITE { [READ, 2, 4, 2, 0, 0] } else { [NOT, 2, 4, 0, 0, 0] };
+    let table = [[INPUT, 0, 0, 0, 0, 0], [INPUT, 2, 0, 0, 0, 0], [INPUT, 2, 0, 0, 0, 0], node, reader, [EQ, 1, 5, 3, 0, 0], [BAD, 1, 6, 0, 0, 0]].concat();
     let list = lowered(&table, &ADDRESSES, 2);
     (0..1u64 << 10)
         .map(|i| {
@@ -174,13 +172,13 @@ fn main() {
     let mut good = true;
     for o in &OPERATIONS {
         // all quotients and remainders of a division are tried, so that it stops at three bits
-        let widest = if o.kind == 14 || o.kind == 15 { 3 } else { 4 };
+        let widest = if o.kind == DIVU || o.kind == REM { 3 } else { 4 };
         let same: Vec<bool> = (1..=widest).flat_map(|w| operation(o, w)).collect();
         good &= report(&format!("{} of 1 to {widest} bits", o.name), &same);
     }
     let same: Vec<bool> = (1..=4).flat_map(choice).collect();
     good &= report("ite of 1 to 4 bits", &same);
-    good &= report("read", &access([16, 2, 1, 2, 0, 0], 2, read));
-    good &= report("write", &access([17, 0, 1, 2, 3, 0], 6, write));
+    good &= report("read", &access([READ, 2, 1, 2, 0, 0], 2, read));
+    good &= report("write", &access([WRITE, 0, 1, 2, 3, 0], 6, write));
     std::process::exit(i32::from(!good));
 }
