@@ -5,14 +5,14 @@ ghost use Rattle.division.specs.Constraint.{con_used, con_gate, con_value, cons_
 use gates::made::At;
 
 // Where the next gate goes, and the next constraint.
-#[derive(Drop)]
+#[derive(Clone, Copy)]
 pub struct Counts {
     pub at: At,
     pub m: usize,
 }
 
 // Gate and value of a constraint.
-#[derive(Drop)]
+#[derive(Clone, Copy)]
 pub struct Constraint {
     pub gate: u32,
     pub value: u32,

@@ -8,7 +8,7 @@ use crate::{fold, made};
 use netlist::record::Gate;
 
 // A sum bit and a carry, and where the next gate goes.
-#[derive(Drop)]
+#[derive(Clone, Copy)]
 pub struct Sum {
     pub sum: u32,
     pub carry: u32,

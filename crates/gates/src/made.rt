@@ -6,13 +6,13 @@ use netlist::record;
 use netlist::record::Gate;
 
 // Where the next gate goes. It goes along by value, and so does what rides along with it.
-#[derive(Drop)]
+#[derive(Clone, Copy)]
 pub struct At {
     pub n: usize,
 }
 
 // A bit, and where the next gate goes.
-#[derive(Drop)]
+#[derive(Clone, Copy)]
 pub struct Made {
     pub bit: u32,
     pub at: At,

@@ -12,7 +12,7 @@ use netlist::record;
 use table::{Fault, Unit};
 
 // What lowering answers: the numbers of gates and of constraints, or a refusal.
-#[derive(Drop)]
+#[derive(Clone, Copy)]
 pub enum Answer {
     Done { gates: usize, constraints: usize },
     Table(Fault),
@@ -51,7 +51,7 @@ pub fn node(a: Answer) -> usize
 }
 
 // An answer taken apart: whether the lowering is done, and how many gates and constraints it then has.
-#[derive(Drop)]
+#[derive(Clone, Copy)]
 pub struct Counts {
     pub done: bool,
     pub gates: usize,

@@ -6,7 +6,7 @@ ghost use Rattle.netlist.specs.Bit.{known_of, is_known};
 use crate::record::Gate;
 
 // What is known of a bit.
-#[derive(Drop)]
+#[derive(Clone, Copy)]
 pub enum Known {
     False,
     True,

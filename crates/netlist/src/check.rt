@@ -9,7 +9,7 @@ use crate::record;
 use crate::record::Gate;
 
 // What the check and the gate evaluator answer: Done, or refusal 11, 12 or 13.
-#[derive(Drop)]
+#[derive(Clone, Copy)]
 pub enum Answer {
     Done,
     GateList(usize),

@@ -6,7 +6,7 @@ ghost use Rattle.netlist.specs.Record.{gate_at, put, used, Room, records, whole_
 pub const SIZE: usize = 4;
 
 // A gate: its kind, and three numbers that are operands, or node and bit of a free gate; what a kind does not use is 0.
-#[derive(Drop)]
+#[derive(Clone, Copy)]
 pub struct Gate {
     pub kind: u32,
     pub x: u32,

@@ -9,7 +9,7 @@ ghost use Rattle.nodes.specs.Asked.{place_of};
 use table::field::width_at;
 
 // So many words, each so wide, from an offset on.
-#[derive(Drop)]
+#[derive(Clone, Copy)]
 pub struct Place {
     pub off: usize,
     pub words: usize,

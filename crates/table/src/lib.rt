@@ -8,7 +8,7 @@ pub mod size; // places in the bit map and among the values
 pub mod ceiling; // the most that each node may add
 
 // The six numbers of a node.
-#[derive(Drop)]
+#[derive(Clone, Copy)]
 pub struct Node {
     pub kind: u64,
     pub width: u64,
@@ -19,7 +19,7 @@ pub struct Node {
 }
 
 // The refusals 1 to 6; a node is named by its number, from 1.
-#[derive(Drop)]
+#[derive(Clone, Copy)]
 pub enum Fault {
     Clear,
     Size,
@@ -31,14 +31,14 @@ pub enum Fault {
 }
 
 // What a node's places are counted in: bits of the bit map, or slots of the word evaluator's values.
-#[derive(Drop)]
+#[derive(Clone, Copy)]
 pub enum Unit {
     Bit,
     Slot,
 }
 
 // The most that a table can ask of the three lent buffers.
-#[derive(Drop)]
+#[derive(Clone, Copy)]
 pub struct Sums {
     pub gates: u64,
     pub map: u64,

@@ -6,7 +6,7 @@ use crate::name::{KIND_COUNT, key, kind_place};
 use crate::number::{number, valid, value};
 
 // Where a field ends, whether a tab follows it, and where the next one begins: a tab or a newline further, or at the text's end.
-#[derive(Drop)]
+#[derive(Clone, Copy)]
 pub struct Part {
     pub end: usize,
     pub tab: bool,
@@ -14,7 +14,7 @@ pub struct Part {
 }
 
 // A field that was read. It is good where all fields of its line up to it are.
-#[derive(Drop)]
+#[derive(Clone, Copy)]
 pub struct Field {
     pub good: bool,
     pub value: u64,

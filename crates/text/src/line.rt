@@ -7,7 +7,7 @@ use crate::field::{Field, kind_field, name_field, number_field};
 use crate::name::NODE;
 
 // A node's line: good where it is one, the record, and where the next line begins.
-#[derive(Drop)]
+#[derive(Clone, Copy)]
 pub struct Node {
     pub good: bool,
     pub kind: u64,

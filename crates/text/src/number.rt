@@ -3,7 +3,7 @@ ghost use Rattle.std.specs.Prelude.{◌≡◌};
 ghost use Rattle.text.specs.Number.{add_digit, digit, number_from, number, valid, value};
 ghost use Rattle.text.specs.declared.number.Num.TheVariants.{Is};
 
-#[derive(Drop)]
+#[derive(Clone, Copy)]
 pub enum Num {
     Bad,
     Is(u64),

@@ -18,7 +18,7 @@ pub const LONGEST: usize = 72858;
 const NODE_SIZE: usize = 6;
 
 // The word width, and how many addresses and nodes there are.
-#[derive(Drop)]
+#[derive(Clone, Copy)]
 pub enum Read {
     Refused,
     Table {
@@ -29,7 +29,7 @@ pub enum Read {
 }
 
 // How many lines were read, and where the next one begins.
-#[derive(Drop)]
+#[derive(Clone, Copy)]
 pub struct Lines {
     pub count: usize,
     pub next: usize,

@@ -9,7 +9,7 @@ pub mod eval; // the evaluator
 use table::Fault;
 
 // What the word evaluator answers.
-#[derive(Drop)]
+#[derive(Clone, Copy)]
 pub enum Answer {
     Done,
     Table(Fault),

@@ -9,7 +9,7 @@ use gates::adder;
 use gates::made::At;
 
 // A carry, and where the next gate goes.
-#[derive(Drop)]
+#[derive(Clone, Copy)]
 pub struct Carry {
     pub carry: u32,
     pub at: At,

@@ -7,7 +7,7 @@ use gates::made::{At, Made};
 use gates::{choice, fold};
 
 // What is made of bit i of a left and a right word; a bit that is the same at each place comes along.
-#[derive(Drop)]
+#[derive(Clone, Copy)]
 pub enum Bitwise {
     Not,
     And,

@@ -11,7 +11,7 @@ use crate::{each, join};
 use gates::made::At;
 
 // To the higher places, or to the lower ones.
-#[derive(Drop)]
+#[derive(Clone, Copy)]
 pub enum Direction {
     Left,
     Right,

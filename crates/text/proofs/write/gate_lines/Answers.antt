@@ -1,0 +1,15 @@
+use mathlib.Core.Path.{refl}
+use Prim.Native.Nat.{◌-◌}
+use Rattle.text.proofs.Writes.{each_none, each_more, each-done}
+use borrow.Author.Rules.{rules}
+use native.Mathlib.Omega.{arith}
+use Rattle.text.proofs.write.gate_lines.Goals as goal
+
+pub loop-i-init : goal.loop-i-init
+loop-i-init c = (omega arith, refl, search (rules, each_none))
+
+pub loop-i-preserved : goal.loop-i-preserved
+loop-i-preserved c = (omega arith, search rules, search (rules, each_more))
+
+pub returns : goal.returns
+returns c = each-done _ _ _ c.loop-i.i _ (omega (arith, c.count-n.ensures)) (omega (arith, c.count-n.ensures)) c.loop-i.invariant.2
