@@ -12,12 +12,12 @@ pub loop-i-init : goal.loop-i-init
 loop-i-init c = (omega arith, omega arith, search (rules, pack-none))
 
 pub overflow_mul-k : goal.overflow_mul-k
-overflow_mul-k c =     let h = pack-fits c.args.s.now (below_all 256 c.args.s.now (λ j. (c.TYPEINV.shared-slice-known.given j).fits)) c.loop-i.i (omega arith) in
+overflow_mul-k c = let h = pack-fits c.args.s.now (below_all 256 c.args.s.now (λ j. (c.type_inv.s j).fits)) c.loop-i.i (omega arith) in
     search rules
 
 pub overflow_add-k : goal.overflow_add-k
-overflow_add-k c =     let h = pack-fits c.args.s.now (below_all 256 c.args.s.now (λ j. (c.TYPEINV.shared-slice-known.given j).fits)) c.loop-i.i (omega arith) in
-    let b = (c.TYPEINV.shared-slice-known.given (c.loop-i.i - 1)).fits in
+overflow_add-k c = let h = pack-fits c.args.s.now (below_all 256 c.args.s.now (λ j. (c.type_inv.s j).fits)) c.loop-i.i (omega arith) in
+    let b = (c.type_inv.s (c.loop-i.i - 1)).fits in
     search rules
 
 pub loop-i-preserved : goal.loop-i-preserved

@@ -15,10 +15,10 @@ pub returns-then-nodes-n : goal.returns-then-nodes-n
 returns-then-nodes-n c = (fill-full _ _ _ _ _ _ (omega arith) ∙ c.loop-p.invariant.2, c.loop-p.invariant.0)
 
 pub returns-then-not-line : goal.returns-then-not-line
-returns-then-not-line c = (node-bad _ (below_all 256 c.args.text.now (λ j. (c.TYPEINV.shared-slice-known.given j).fits)) _ _ (omega arith) _ _ c.node_line-line.ensures.0 (not-true _ c.if-not-line.true) ∙ c.loop-p.invariant.2, c.loop-p.invariant.0)
+returns-then-not-line c = (node-bad _ (below_all 256 c.args.text.now (λ j. (c.type_inv.text j).fits)) _ _ (omega arith) _ _ c.node_line-line.ensures.0 (not-true _ c.if-not-line.true) ∙ c.loop-p.invariant.2, c.loop-p.invariant.0)
 
 pub loop-p-preserved : goal.loop-p-preserved
-loop-p-preserved c = (search rules, search rules, node-more _ (below_all 256 c.args.text.now (λ j. (c.TYPEINV.shared-slice-known.given j).fits)) _ _ (omega arith) _ _ c.node_line-line.ensures.0 (not-false _ c.if-not-line.false) (omega arith) _ c.store.ensures ∙ c.loop-p.invariant.2)
+loop-p-preserved c = (search rules, search rules, node-more _ (below_all 256 c.args.text.now (λ j. (c.type_inv.text j).fits)) _ _ (omega arith) _ _ c.node_line-line.ensures.0 (not-false _ c.if-not-line.false) (omega arith) _ c.store.ensures ∙ c.loop-p.invariant.2)
 
 pub returns : goal.returns
 returns c = (nodes-none c.args.text.now c.loop-p.nodes c.loop-p.p c.loop-p.n (omega arith) ∙ c.loop-p.invariant.2, c.loop-p.invariant.0)

@@ -9,7 +9,7 @@ pub loop-k-init : goal.loop-k-init
 loop-k-init c = (omega arith, refl, search (rules, each_none))
 
 pub bits_line-p-requires : goal.bits_line-p-requires
-bits_line-p-requires c = let o = c.requires in ((omega (arith, o.all), omega arith), o.up _ (omega arith))
+bits_line-p-requires c = let o = c.requires in record { i_in_bounds = (omega (arith, o.all), omega arith); i_bound = o.up _ (omega arith) }
 
 pub loop-k-preserved : goal.loop-k-preserved
 loop-k-preserved c = (omega arith, search rules, search (rules, each_more, next-put))

@@ -8,11 +8,11 @@ use Rattle.text.proofs.write.write.Goals as goal
 
 pub returns : goal.returns
 unfolding done_line done_name
-returns c =     let a = c.args in
+returns c = let a = c.args in
     let fits =
     output-length a.gates.now a.map.now a.offsets.now a.marks.now a.constraints.now
-    (λ i. (c.TYPEINV.shared-slice-known.given i).fits) (λ i. (c.TYPEINV.shared-slice-known2.given i).fits) (λ i. (c.TYPEINV.shared-slice-known5.given i).fits)
-    (omega (arith, c.UNKNOWN.well-formed)) (omega (arith, c.UNKNOWN.well-formed)) (omega (arith, c.UNKNOWN.well-formed)) c.requires.0 in
-    let room : length (output a.gates.now a.map.now a.offsets.now a.marks.now a.constraints.now) ≤ length a.out.now = omega (arith, c.requires.1) in
+    (λ i. (c.type_inv.gates i).fits) (λ i. (c.type_inv.map i).fits) (λ i. (c.type_inv.constraints i).fits)
+    (omega (arith, c.UNKNOWN.well-formed)) (omega (arith, c.UNKNOWN.well-formed)) (omega (arith, c.UNKNOWN.well-formed)) c.requires.offsets in
+    let room : length (output a.gates.now a.map.now a.offsets.now a.marks.now a.constraints.now) ≤ length a.out.now = omega (arith, c.requires.constraints_in_bounds) in
     written a.gates.now a.map.now a.offsets.now a.marks.now a.constraints.now a.out.now
     _ _ _ _ _ _ _ _ _ room c.count-g.ensures c.gate_lines-p.ensures c.bits_lines-q.ensures c.constraint_lines-s.ensures c.put_pair.ensures
