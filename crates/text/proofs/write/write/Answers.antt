@@ -12,7 +12,7 @@ returns c = let a = c.args in
     let fits =
     output-length a.gates.now a.map.now a.offsets.now a.marks.now a.constraints.now
     (λ i. (c.type_inv.gates i).fits) (λ i. (c.type_inv.map i).fits) (λ i. (c.type_inv.constraints i).fits)
-    (omega (arith, c.UNKNOWN.well-formed)) (omega (arith, c.UNKNOWN.well-formed)) (omega (arith, c.UNKNOWN.well-formed)) c.requires.offsets in
+    (omega (arith, c.well_formed)) (omega (arith, c.well_formed)) (omega (arith, c.well_formed)) c.requires.offsets in
     let room : length (output a.gates.now a.map.now a.offsets.now a.marks.now a.constraints.now) ≤ length a.out.now = omega (arith, c.requires.constraints_in_bounds) in
     written a.gates.now a.map.now a.offsets.now a.marks.now a.constraints.now a.out.now
     _ _ _ _ _ _ _ _ _ room c.count-g.ensures c.gate_lines-p.ensures c.bits_lines-q.ensures c.constraint_lines-s.ensures c.put_pair.ensures

@@ -1,0 +1,6 @@
+use borrow.Author.Rules.{rules}
+use Rattle.table.proofs.sheet.Laws.{address-path}
+use Rattle.table.proofs.sheet.address_bad.Goals as goal
+
+pub returns : goal.returns
+returns c = search (rules, address-path)

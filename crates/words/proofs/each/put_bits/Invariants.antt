@@ -1,0 +1,11 @@
+use Prim.Native.Nat.{◌≤◌, ◌-◌}
+use mathlib.Core.Path.{◌≡◌}
+use lib.ListN.{length}
+use Rattle.words.specs.Each.{put_bits}
+use Rattle.words.proofs.each.put_bits.Given as goal
+
+abbrev pub invariant-loop-i : goal.invariant-loop-i
+invariant-loop-i l = (l.i ≤ l.w) × (l.map ≡ put_bits l.from l.bits l.i l.initial.map) × (length l.map ≡ length l.initial.map)
+
+abbrev pub decreases-loop-i : goal.decreases-loop-i
+decreases-loop-i l = l.w - l.i
