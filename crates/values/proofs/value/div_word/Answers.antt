@@ -1,0 +1,12 @@
+use Rattle.std.proofs.Common.{rules, eq-eqb, ne_eqb}
+use Rattle.loops.proofs.Loop.{pick_true, pick-false}
+use Rattle.values.specs.Value.{div_word}
+use Rattle.values.proofs.value.div_word.Goals as goal
+
+pub returns-then-y-eq0 : goal.returns-then-y-eq0
+unfolding div_word
+returns-then-y-eq0 c = search (rules, eq-eqb, ne_eqb, pick_true, pick-false)
+
+pub returns : goal.returns
+unfolding div_word
+returns c = search (rules, eq-eqb, ne_eqb, pick_true, pick-false)
