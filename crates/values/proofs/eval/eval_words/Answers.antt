@@ -10,7 +10,7 @@ pub returns-then-not-clear : goal.returns-then-not-clear
 returns-then-not-clear c = words-fault _ _ _ _ _ _ c.check_table-f.ensures c.clear.ensures (ap not c.if-not-clear.true)
 
 pub eval_clear-requires : goal.eval_clear-requires
-eval_clear-requires c = record { fine = checked _ _ _ _ _ c.check_table-f.ensures c.clear.ensures (not-false _ c.if-not-clear.false); in_bounds = omega arith }
+eval_clear-requires c = record { fine = checked _ _ _ _ _ c.check_table-f.ensures c.clear.ensures c.if-not-clear.false; in_bounds = omega arith }
 
 pub returns : goal.returns
 returns c = words-clear _ _ _ _ _ _ c.check_table-f.ensures c.clear.ensures _ _ (ap not c.if-not-clear.false) c.eval_clear.ensures
