@@ -8,17 +8,17 @@ use native.Mathlib.Decide.{dec_lt}
 use native.Mathlib.Nat.{pow-suc, pow-le-pow_right, mod-eq_of_lt, one-mul}
 use lib.Bits.{bit_and, and_mask}
 use native.Mathlib.Numerals.{add-one}
-use lib.Dec.{eqb, ltb, leb}
+use lib.Dec.{leb}
 use lib.Pow.{pow-lt}
 use lib.ListN.{length, get_or, set, length-set}
 use lib.Seq.{get_or-set_same, get_or-set_other}
 use borrow.Author.Tests.{leb-true, leb-false, le-leb, lt-leb, not-false}
-use Rattle.loops.specs.Loop.{iter, first, bit}
-use Rattle.loops.proofs.Loop.{iter-inv, first_below, first-true, first-le, first_found, first_more, first_done}
+use Rattle.loops.specs.Loop.{first}
+use Rattle.loops.proofs.Loop.{iter-inv, first_below, first-true, first_found, first_more, first_done}
 use Rattle.netlist.specs.Bit.{is_known}
 use Rattle.netlist.proofs.BitLaws.{known-less, less-known}
-use Rattle.digits.specs.Digits.{digit, powers_below, number, digit_step, put_digits, Below, unknown_at, all_known, known_bits, known_number}
-use Rattle.digits.proofs.Numbers.{digit_lt, bit-eqb, number_lt}
+use Rattle.digits.specs.Digits.{digit, powers_below, number, digit_step, put_digits, Below, unknown_at, all_known, known_bits}
+use Rattle.digits.proofs.Numbers.{bit-eqb, number_lt}
 
 -- after put_digits: the digits stand there, and every other place is as before
 pub record Put (a : ℕ) (l : List ℕ) (w : ℕ) (out : List ℕ) : Type 0 where

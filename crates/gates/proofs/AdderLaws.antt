@@ -1,5 +1,5 @@
 -- The law of one adder: sum + 2 · carry ≡ left + right + carry in.
-use mathlib.Core.Path.{◌≡◌, refl, ap, sym, ◌∙◌}
+use mathlib.Core.Path.{◌≡◌, refl, ap}
 use mathlib.Core.Bool.{Bool, true, false, not, ◌&&◌, ◌||◌}
 use Prim.Native.Nat.{ℕ, ◌+◌, ◌*◌, ◌≤◌, ◌<◌}
 use native.Mathlib.Omega.{arith}
@@ -8,10 +8,10 @@ use borrow.Author.Tests.{eqb-true, eqb-false}
 use Rattle.loops.specs.Loop.{pick, bit}
 use Rattle.loops.proofs.Loop.{by-pick, both}
 use Rattle.netlist.specs.Kind.{xor, maj}
-use Rattle.netlist.specs.Net.{Net, Assign, Obeys}
+use Rattle.netlist.specs.Net.{Net, Obeys}
 use Rattle.netlist.specs.Bit.{is_known}
 use Rattle.netlist.proofs.BitLaws.{known-less, unknown-least, less-known}
-use Rattle.gates.specs.Made.{MadeBit, MadeSum, added, gate_result_half}
+use Rattle.gates.specs.Made.{MadeSum, added, gate_result_half}
 use Rattle.gates.specs.Fold.{not_bit}
 use Rattle.gates.specs.Adder.{two_known, one_known, none_known, adder_bit, adder_cost}
 use Rattle.gates.specs.Law.{Formed, BitLaw, SumLaw, In2, Kn2, In3, Kn3, total3}

@@ -1,16 +1,15 @@
 -- The laws of Not, And, Or and Xnor.
-use mathlib.Core.Path.{◌≡◌, refl, ap, sym, ◌∙◌}
+use mathlib.Core.Path.{◌≡◌, refl, ap}
 use mathlib.Core.Bool.{Bool, true, false, not, ◌&&◌, ◌||◌}
-use Prim.Native.Nat.{ℕ, ◌+◌, ◌≤◌, ◌<◌}
+use Prim.Native.Nat.{ℕ, ◌≤◌, ◌<◌}
 use native.Mathlib.Omega.{arith}
 use Rattle.loops.specs.Loop.{pick}
 use Rattle.loops.proofs.Loop.{by-pick}
-use Rattle.netlist.specs.Record.{gate}
 use Rattle.netlist.specs.Kind.{xor, maj, free, uses_y, uses_z, value_of}
-use Rattle.netlist.specs.Net.{Net, Assign, Says, Obeys}
+use Rattle.netlist.specs.Net.{Net, Says}
 use Rattle.netlist.specs.Bit.{is_known}
 use Rattle.netlist.proofs.BitLaws.{by-known, less-known, least-unknown}
-use Rattle.gates.specs.Made.{MadeBit, kept, added, gate_not, gate_and, gate_or, gate_matriarch1, gate_carry_half, gate_result_half, gate_carry_full, gate_result_full}
+use Rattle.gates.specs.Made.{MadeBit, added, gate_not, gate_and, gate_or, gate_matriarch1, gate_carry_half, gate_result_half, gate_carry_full, gate_result_full}
 use Rattle.gates.specs.Fold.{not_bit, and_bit, or_bit, xnor_bit, not_cost, xnor_cost}
 use Rattle.gates.specs.Law.{BitLaw, In2, Kn2, In3, Kn3}
 use Rattle.gates.proofs.Laws.{kept-law, added-law, good-one, good-two, good-three, bit-map, then-law}

@@ -1,14 +1,13 @@
 -- A formed net passes the gate list's check, and has, for what is given at its free gates, exactly one assignment that obeys it: what the gate
 -- evaluator works out.
-use mathlib.Core.Path.{◌≡◌, refl, ap, sym, ◌∙◌}
-use mathlib.Core.List.{List}
-use mathlib.Core.Bool.{Bool, true, false}
-use Prim.Native.Nat.{ℕ, zero, suc, ◌+◌, ◌≤◌, ◌<◌}
+use mathlib.Core.Path.{◌≡◌}
+use mathlib.Core.Bool.{true, false}
+use Prim.Native.Nat.{ℕ, zero, suc, ◌<◌}
 use native.Mathlib.Omega.{arith}
 use native.Mathlib.Decide.{dec_lt}
 use borrow.Author.Tests.{lt-ltb, le-ltb}
 use Rattle.loops.specs.Loop.{pick}
-use Rattle.netlist.specs.Record.{gate, gate_at, Room}
+use Rattle.netlist.specs.Record.{gate_at, Room}
 use Rattle.netlist.specs.Kind.{free}
 use Rattle.netlist.specs.Net.{Net, Assign, Obeys}
 use Rattle.netlist.specs.Check.{const_good, faulty}

@@ -1,9 +1,8 @@
 -- The law of a free gate, InputBit, Quotient or Remainder.
 use mathlib.Core.Path.{◌≡◌, refl}
-use mathlib.Core.Bool.{Bool, true, false}
-use Prim.Native.Nat.{ℕ, ◌+◌}
+use mathlib.Core.Bool.{true}
+use Prim.Native.Nat.{ℕ}
 use native.Mathlib.Omega.{arith}
-use Rattle.netlist.specs.declared.record.Gate.{Gate}
 use Rattle.netlist.specs.Record.{gate}
 use Rattle.netlist.specs.Kind.{free}
 use Rattle.netlist.specs.Net.{Net}

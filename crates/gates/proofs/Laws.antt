@@ -1,23 +1,21 @@
 -- How laws of operations are made and put together.
-use mathlib.Core.Path.{◌≡◌, refl, ap, sym, ◌∙◌}
-use mathlib.Core.List.{List}
-use mathlib.Core.Bool.{Bool, true, false, not, ◌&&◌, ◌||◌}
+use mathlib.Core.Path.{◌≡◌, refl, ap, ◌∙◌}
+use mathlib.Core.Bool.{Bool, true, false, ◌&&◌}
 use Prim.Native.Nat.{ℕ, zero, suc, ◌+◌, ◌*◌, ◌≤◌, ◌<◌}
 use native.Mathlib.Omega.{arith}
 use native.Mathlib.Decide.{dec_lt}
-use lib.Dec.{eqb, ltb, leb}
-use lib.ListN.{length, get_or}
+use lib.Dec.{leb}
 use borrow.Author.Tests.{lt-ltb}
 use Rattle.loops.specs.Loop.{bit}
 use Rattle.netlist.specs.declared.record.Gate.{Gate}
-use Rattle.netlist.specs.Record.{gate, gate_at, put, used, Room}
+use Rattle.netlist.specs.Record.{gate, gate_at, put, Room}
 use Rattle.netlist.specs.Kind.{free, uses_y, uses_z}
 use Rattle.netlist.specs.Net.{Net, Assign, Says, Obeys}
 use Rattle.netlist.specs.Check.{field_good, later_good}
 use Rattle.netlist.proofs.RecordLaws.{put-length, put_same, put_other, put_rest}
 use Rattle.gates.specs.Made.{MadeBit, MadeSum, kept, added}
 use Rattle.gates.specs.Adder.{carried}
-use Rattle.gates.specs.Law.{Grows, Bound, Ext, Good, Formed, BitLaw, SumLaw, In2, Kn2, In3, Kn3}
+use Rattle.gates.specs.Law.{Grows, Bound, Ext, Good, Formed, BitLaw, SumLaw, In2, Kn2}
 
 -- ---- the longer net agrees with the shorter
 

@@ -1,24 +1,23 @@
 -- What the code's calls come to, path by path, over the definitions alone: a proof of the code cites each by its bare name in `search`.
-use mathlib.Core.Path.{◌≡◌, refl, ap, sym, ◌∙◌}
+use mathlib.Core.Path.{◌≡◌, ap, sym, ◌∙◌}
 use mathlib.Core.List.{List}
 use mathlib.Core.Bool.{Bool, true, false, ◌&&◌}
-use Prim.Native.Nat.{ℕ, ◌+◌, ◌≤◌, ◌<◌}
+use Prim.Native.Nat.{ℕ, ◌+◌, ◌≤◌}
 use native.Mathlib.Omega.{arith}
 use borrow.Author.Tests.{eq-eqb, ne_eqb}
-use Rattle.loops.specs.Loop.{pick, bit}
+use Rattle.loops.specs.Loop.{pick}
 use Rattle.netlist.specs.declared.record.Gate.{Gate}
 use Rattle.netlist.specs.declared.bit.Known.{Known}
 use Rattle.netlist.specs.declared.bit.Known.TheVariants.{False, True, Unknown}
 use Rattle.netlist.specs.Record.{put}
 use Rattle.netlist.specs.Net.{Net}
 use Rattle.netlist.specs.Bit.{is_known, known_of, by_known}
-use Rattle.netlist.proofs.BitLaws.{case-false, case-true, case-unknown}
 use Rattle.gates.specs.declared.made.At.{At}
 use Rattle.gates.specs.Made.{MadeBit, MadeSum, kept, added, net_of, made_of, sum_of, gate_not, gate_and, gate_or, gate_matriarch1, gate_carry_half, gate_result_half, gate_carry_full, gate_result_full}
 use Rattle.gates.specs.Fold.{not_bit, and_bit, or_bit, xnor_bit}
 use Rattle.gates.specs.Adder.{summed, carried, two_known, one_known, none_known, adder_bit}
 use Rattle.gates.specs.Choice.{true_side, false_side, both_sides, choice_bit, mux_bit}
-use Rattle.gates.specs.Law.{Ext, Grows}
+use Rattle.gates.specs.Law.{Grows}
 use Rattle.gates.proofs.Laws.{grows-added}
 use Rattle.gates.proofs.FoldLaws.{not-one}
 use Rattle.gates.proofs.ChoiceLaws.{true-grows, false-grows, clear-side}

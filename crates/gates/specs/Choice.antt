@@ -1,5 +1,5 @@
 -- Choice of t or f by a condition c.
-use Rattle.std.specs.Prelude.{Bool, ◌&&◌, ℕ, eqb}
+use Rattle.std.specs.Prelude.{◌&&◌, ℕ, eqb}
 use Rattle.loops.specs.Loop.{pick}
 use Rattle.netlist.specs.Net.{Net}
 use Rattle.netlist.specs.Bit.{is_known, known_of, by_known}

@@ -1,10 +1,9 @@
 -- The free gates, given from outside: one InputBit, Quotient or Remainder of a node's bit.
-use Rattle.std.specs.Prelude.{◌≡◌, Bool, true, false, ℕ, ◌+◌, ◌<◌}
+use Rattle.std.specs.Prelude.{◌≡◌, ◌+◌}
 use Rattle.netlist.specs.declared.record.Gate.{Gate}
 use Rattle.netlist.specs.Record.{gate_at, Room}
-use Rattle.netlist.specs.Kind.{free}
 use Rattle.netlist.specs.Net.{Net}
-use Rattle.gates.specs.Made.{MadeBit, added}
+use Rattle.gates.specs.Made.{MadeBit}
 use Rattle.gates.specs.Law.{Grows, Formed}
 
 -- what is right of one free gate more, g

@@ -1,5 +1,5 @@
 -- What every operation on a net owes: the net only grows, each gate means what it should, each new record is formed.
-use Rattle.std.specs.Prelude.{◌≡◌, List, Bool, true, false, ℕ, ◌+◌, ◌*◌, ◌≤◌, ◌<◌, get_or, length}
+use Rattle.std.specs.Prelude.{◌≡◌, Bool, true, false, ℕ, ◌+◌, ◌*◌, ◌≤◌, ◌<◌, get_or, length}
 use Rattle.loops.specs.Loop.{bit}
 use Rattle.netlist.specs.declared.record.Gate.{Gate}
 use Rattle.netlist.specs.Record.{gate, gate_at, used, Room}

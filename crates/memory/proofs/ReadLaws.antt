@@ -9,7 +9,7 @@ use lib.Dec.{eqb, ltb}
 use lib.ListN.{length, get_or, drop}
 use lib.Seq.{get_or-drop}
 use borrow.Author.Tests.{eq-eqb, ne_eqb, ltb-true, ltb-false}
-use Rattle.loops.specs.Loop.{iter, bit}
+use Rattle.loops.specs.Loop.{iter}
 use Rattle.loops.proofs.Loop.{by-pick, iter-inv}
 use Rattle.netlist.specs.Record.{Room}
 use Rattle.netlist.specs.Net.{Assign, Obeys}

@@ -1,20 +1,20 @@
 -- What the evaluator answers with Done obeys the list, and is the only assignment that does so with the given free values.
 use mathlib.Core.Path.{◌≡◌, refl, ap, sym, ◌∙◌}
 use mathlib.Core.List.{List}
-use mathlib.Core.Bool.{Bool, true, false, not, ◌&&◌, ◌||◌}
-use Prim.Native.Nat.{ℕ, zero, suc, ◌+◌, ◌≤◌, ◌<◌}
+use mathlib.Core.Bool.{Bool, true, false, not, ◌&&◌}
+use Prim.Native.Nat.{ℕ, zero, suc, ◌≤◌, ◌<◌}
 use native.Mathlib.Omega.{arith}
 use native.Mathlib.Decide.{dec_lt}
 use lib.Dec.{eqb, ltb, leb}
 use lib.ListN.{length, get_or, set, replicate, length-set, length-replicate}
 use lib.Seq.{get_or-set_same, get_or-set_other}
-use borrow.Author.Tests.{lt-ltb, le-ltb, le-leb, leb-true, ltb-true, eqb-true, eqb-false, not-false, ltb-false}
+use borrow.Author.Tests.{lt-ltb, le-ltb, le-leb, leb-true, ltb-true, eqb-true, not-false, ltb-false}
 use Rattle.loops.specs.Loop.{pick, iter, first, bit}
 use Rattle.loops.proofs.Loop.{iter-inv, both, either, first_below, first-true}
 use Rattle.netlist.specs.declared.record.Gate.{Gate}
 use Rattle.netlist.specs.declared.check.Answer.{Answer}
 use Rattle.netlist.specs.declared.check.Answer.TheVariants.{Done, GateList, ValueRoom, Input}
-use Rattle.netlist.specs.Record.{gate, gate_at, Room, records, whole_records}
+use Rattle.netlist.specs.Record.{gate_at, Room, records, whole_records}
 use Rattle.netlist.specs.Kind.{free, uses_y, uses_z, value_of}
 use Rattle.netlist.specs.Net.{Net, Assign, Says, Obeys}
 use Rattle.netlist.specs.Check.{field_good, const_good, later_good, faulty, list_fault, is_done}

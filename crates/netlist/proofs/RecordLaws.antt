@@ -1,11 +1,11 @@
 -- The layout of a record in the buffer: what is written is read back, and nothing else changes.
-use mathlib.Core.Path.{◌≡◌, refl, ap, sym, ◌∙◌}
+use mathlib.Core.Path.{◌≡◌, ◌∙◌}
 use mathlib.Core.List.{List}
 use Prim.Native.Nat.{ℕ, ◌+◌, ◌*◌, ◌≤◌, ◌<◌}
 use native.Mathlib.Omega.{arith}
 use lib.ListN.{set, get_or, length, length-set}
 use lib.Seq.{get_or-set_same, get_or-set_other}
-use Rattle.netlist.specs.Record.{gate, put, gate_at, used, Room}
+use Rattle.netlist.specs.Record.{put, gate_at, used, Room}
 use Rattle.netlist.specs.declared.record.Gate.{Gate}
 
 pub put-length : (l : List ℕ) (n : ℕ) (g : Gate) → length (put l n g) ≡ length l

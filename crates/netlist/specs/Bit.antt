@@ -1,5 +1,5 @@
 -- What is known of a bit: a bit that is one of the gates 0 and 1 is known.
-use Rattle.std.specs.Prelude.{Bool, true, false, ℕ, eqb, ltb}
+use Rattle.std.specs.Prelude.{Bool, ℕ, eqb, ltb}
 use Rattle.loops.specs.Loop.{pick}
 use Rattle.netlist.specs.declared.bit.Known.{Known}
 use Rattle.netlist.specs.declared.bit.Known.TheVariants.{False, True, Unknown}

@@ -1,8 +1,8 @@
 -- The gate evaluator: refusals 11, 12, 13; one byte a gate, free gates given as 0 or 1.
-use Rattle.std.specs.Prelude.{List, Bool, true, false, not, ◌&&◌, ◌||◌, ℕ, eqb, ltb, leb, get_or, set, length}
+use Rattle.std.specs.Prelude.{List, Bool, ◌&&◌, ℕ, eqb, ltb, leb, get_or, set, length}
 use Rattle.netlist.specs.declared.record.Gate.{Gate}
 use Rattle.netlist.specs.declared.check.Answer.{Answer}
-use Rattle.netlist.specs.declared.check.Answer.TheVariants.{Done, GateList, ValueRoom, Input}
+use Rattle.netlist.specs.declared.check.Answer.TheVariants.{Done, ValueRoom, Input}
 use Rattle.loops.specs.Loop.{pick, first, iter, bit}
 use Rattle.netlist.specs.Record.{gate_at, records}
 use Rattle.netlist.specs.Kind.{free, value_of}

@@ -13,7 +13,7 @@ use Rattle.netlist.specs.Net.{Net}
 use Rattle.digits.specs.Op.{Op, op_two}
 use Rattle.digits.proofs.Ops.{each-op}
 use Rattle.words.specs.Op.{fresh, op_word}
-use Rattle.nodes.specs.Own.{shares, plain_word}
+use Rattle.nodes.specs.Own.{plain_word}
 use Rattle.nodes.specs.Asked.{Plain}
 
 pub op-plain : (o : Op) (d : Node) → d.kind ≡ op_kind o → Plain d

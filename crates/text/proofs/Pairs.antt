@@ -8,7 +8,7 @@ use lib.ListN.{length, get_or, drop}
 use borrow.Author.Tests.{eqb-true, not-true}
 use Rattle.loops.proofs.Loop.{both}
 use Rattle.text.specs.declared.field.Field.{Field}
-use Rattle.text.specs.Number.{number, valid, value}
+use Rattle.text.specs.Number.{number, valid}
 use Rattle.text.specs.Name.{same}
 use Rattle.text.specs.Key.{key}
 use Rattle.text.specs.Plain.{number_at, is_pair, pair_of}

@@ -1,10 +1,9 @@
 -- How many bytes are written at most.
-use mathlib.Core.Path.{◌≡◌, refl, ap}
+use mathlib.Core.Path.{◌≡◌, refl}
 use mathlib.Core.List.{List, [], ◌∷◌, ◌++◌}
 use mathlib.Core.Bool.{Bool, true, false}
 use Prim.Native.Nat.{ℕ, zero, suc, ◌+◌, ◌-◌, ◌*◌, ◌^◌, ◌≤◌, ◌<◌}
 use native.Mathlib.Omega.{arith}
-use native.Mathlib.Numerals.{add-one}
 use lib.Dec.{eqb}
 use lib.ListN.{length, get_or, drop, length-append, length-take}
 use Rattle.loops.specs.Loop.{pick}

@@ -10,7 +10,7 @@ use lib.ListN.{get_or}
 use borrow.Author.Tests.{eq-eqb}
 use Rattle.netlist.specs.Net.{Net, Assign, Says, Obeys}
 use Rattle.netlist.specs.declared.record.Gate.{Gate}
-use Rattle.netlist.specs.Record.{gate, gate_at, Room}
+use Rattle.netlist.specs.Record.{gate_at, Room}
 use Rattle.loops.specs.Loop.{pick}
 use Rattle.netlist.specs.Kind.{free}
 use Rattle.gates.specs.Law.{Formed}

@@ -1,23 +1,21 @@
 -- The law of the adder chain, over the width: what the sum says, with the carry above it, is what was said before and what was added.
-use mathlib.Core.Path.{◌≡◌, refl, ap, sym, ◌∙◌}
+use mathlib.Core.Path.{◌≡◌, refl, ap, ◌∙◌}
 use mathlib.Core.List.{List}
-use mathlib.Core.Bool.{Bool, true, false}
 use Prim.Native.Nat.{ℕ, zero, suc, ◌+◌, ◌*◌, ◌^◌, ◌%◌, ◌≤◌, ◌<◌}
 use native.Mathlib.Omega.{arith}
-use native.Mathlib.Decide.{dec_lt}
 use native.Mathlib.Nat.{pow-suc, zero-add, add-zero, add-suc, mul_assoc, add-mul-mod_self_left, mod-eq_of_lt}
 use lib.ListN.{length, get_or, set, length-set}
 use lib.Seq.{get_or-set_same, get_or-set_other}
-use Rattle.loops.specs.Loop.{iter, sum, bit}
+use Rattle.loops.specs.Loop.{bit}
 use Rattle.loops.proofs.Loop.{iter-inv}
 use Rattle.netlist.specs.Record.{Room}
-use Rattle.netlist.specs.Net.{Net, Assign, Obeys}
+use Rattle.netlist.specs.Net.{Assign, Obeys}
 use Rattle.gates.specs.Made.{MadeSum}
 use Rattle.gates.specs.Adder.{adder_bit, adder_cost}
 use Rattle.gates.specs.Law.{Ext, Formed, SumLaw, In3, Kn3, total3}
 use Rattle.gates.proofs.Laws.{ext_refl, ext_trans, ext-weaken, keeps, room_back}
 use Rattle.gates.proofs.AdderLaws.{adder-law, adder-cost}
-use Rattle.digits.specs.Digits.{number, Below}
+use Rattle.digits.specs.Digits.{Below}
 use Rattle.words.specs.Num.{num}
 use Rattle.words.specs.Each.{put_bits, Put}
 use Rattle.words.specs.Add.{Chain, add_step, add_onto, chain_cost, add_cost, add_words, ChainLaw}

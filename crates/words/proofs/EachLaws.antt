@@ -1,27 +1,25 @@
 -- The law of a word that is made bit by bit, once for every operation and every width.
-use mathlib.Core.Path.{◌≡◌, refl, ap, sym, ◌∙◌}
+use mathlib.Core.Path.{◌≡◌, refl, ap, ◌∙◌}
 use mathlib.Core.List.{List}
-use mathlib.Core.Bool.{Bool, true, false, not, ◌&&◌, ◌||◌}
-use Prim.Native.Nat.{ℕ, zero, suc, ◌+◌, ◌*◌, ◌≤◌, ◌<◌}
+use Prim.Native.Nat.{ℕ, suc, ◌+◌, ◌*◌, ◌≤◌, ◌<◌}
 use native.Mathlib.Omega.{arith}
 use native.Mathlib.Decide.{dec_lt}
 use lib.Dec.{eqb}
 use lib.ListN.{length, get_or, set, length-set}
 use lib.Seq.{get_or-set_same, get_or-set_other}
-use Rattle.loops.specs.Loop.{iter, sum, pick}
+use Rattle.loops.specs.Loop.{pick}
 use Rattle.loops.proofs.Loop.{iter-inv}
-use Rattle.netlist.specs.Record.{Room}
 use Rattle.netlist.specs.Net.{Net, Assign, Obeys}
-use Rattle.gates.specs.Made.{MadeBit, kept}
+use Rattle.gates.specs.Made.{MadeBit}
 use Rattle.gates.specs.Law.{Ext, Formed, BitLaw}
-use Rattle.gates.proofs.Laws.{ext_refl, ext_trans, ext-weaken, keeps, room_back, bit-map}
+use Rattle.gates.proofs.Laws.{ext_refl, ext_trans, ext-weaken, keeps, room_back}
 use Rattle.gates.proofs.FoldLaws.{not-law, and-law, or-law, xnor-law, not-cost}
 use Rattle.gates.proofs.ChoiceLaws.{mux-law, mux-known, clear-law}
 use Rattle.digits.specs.Digits.{Below}
 use Rattle.words.specs.declared.each.Bitwise.{Bitwise}
 use Rattle.words.specs.declared.each.Bitwise.TheVariants.{Not, And, Or, Xnor, AndWith, Choose, Clear}
 use Rattle.words.specs.Each.{bitwise, bit_value, bit_cost, bit_below, Word, each_step, each_bit, each_cost, EachLaw, copy_step, put_bits, Put}
-use Rattle.words.proofs.Sums.{sum-suc, sum-none, sum-most}
+use Rattle.words.proofs.Sums.{sum-suc, sum-most}
 
 -- each operation's law, under one name
 pub bit-law : (op : Bitwise) (s : Net) (a b : ℕ) → BitLaw s (bit_below op s.n a b) (bit_below op 2 a b) (λ e. bit_value op e a b) (bit_cost op a b) (bitwise op s a b)

@@ -1,10 +1,10 @@
 -- The law of the product, over the width. One number k stands for what is lost above w bits: sum + 2 ^ w · k ≡ left · right.
-use mathlib.Core.Path.{◌≡◌, refl, ap, sym, ◌∙◌}
+use mathlib.Core.Path.{◌≡◌, refl, ap, ◌∙◌}
 use mathlib.Core.List.{List}
 use mathlib.Core.Bool.{Bool, true, false, ◌&&◌}
-use Prim.Native.Nat.{ℕ, zero, suc, ◌+◌, ◌*◌, ◌-◌, ◌^◌, ◌%◌, ◌≤◌, ◌<◌}
+use Prim.Native.Nat.{ℕ, zero, suc, ◌+◌, ◌*◌, ◌-◌, ◌^◌, ◌≤◌, ◌<◌}
 use native.Mathlib.Omega.{arith}
-use native.Mathlib.Nat.{pow-suc, zero-add, add-zero, add-suc, add-mul-mod_self_left, mod-eq_of_lt, zero-div}
+use native.Mathlib.Nat.{add-zero, add-suc, add-mul-mod_self_left, mod-eq_of_lt, zero-div}
 use lib.ListN.{length, get_or, drop}
 use lib.Seq.{get_or-drop}
 use Rattle.loops.specs.Loop.{iter, sum, bit}
@@ -17,7 +17,7 @@ use Rattle.digits.specs.Digits.{digit, number, Below, put_digits}
 use Rattle.digits.proofs.Words as digits
 use Rattle.words.specs.declared.each.Bitwise.TheVariants.{AndWith}
 use Rattle.words.specs.Num.{num, blank}
-use Rattle.words.specs.Each.{bit_value, bit_cost, bit_below, Word, each_bit, each_cost, EachLaw}
+use Rattle.words.specs.Each.{bit_value, bit_cost, bit_below, Word, each_cost, EachLaw}
 use Rattle.words.specs.Add.{Chain, add_onto, chain_cost, ChainLaw}
 use Rattle.words.specs.Mul.{row_of, mul_step, mul_words, mul_cost, RowLaw, OntoLaw, MulLaw}
 use Rattle.words.proofs.Sums.{sum-suc, sum-none, sum-within}

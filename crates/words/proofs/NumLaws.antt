@@ -2,7 +2,7 @@
 use mathlib.Core.Path.{◌≡◌, refl, ap, sym, ◌∙◌}
 use mathlib.Core.List.{List}
 use mathlib.Core.Bool.{Bool, true, false, not}
-use Prim.Native.Nat.{ℕ, zero, suc, ◌+◌, ◌*◌, ◌^◌, ◌%◌, ◌≤◌, ◌<◌}
+use Prim.Native.Nat.{ℕ, zero, suc, ◌+◌, ◌*◌, ◌^◌, ◌<◌}
 use native.Mathlib.Omega.{arith}
 use native.Mathlib.Nat.{pow-suc}
 use native.Mathlib.Numerals.{add-one}
@@ -10,7 +10,6 @@ use lib.Dec.{eqb}
 use lib.ListN.{length, get_or, replicate, length-replicate}
 use Rattle.loops.specs.Loop.{bit, pick}
 use Rattle.netlist.specs.Net.{Net, Assign, Obeys}
-use Rattle.gates.proofs.Laws.{bit-known}
 use Rattle.digits.specs.Digits.{digit, number, Below, known_bits, known_number}
 use Rattle.digits.proofs.Numbers.{number_lt, number_same, number_digits, number-digit}
 use Rattle.words.specs.Num.{num, filled, blank}

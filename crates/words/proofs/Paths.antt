@@ -5,7 +5,7 @@ use Prim.Native.Nat.{ℕ, suc, ◌-◌, ◌+◌, ◌*◌, ◌^◌, ◌%◌, ◌�
 use native.Mathlib.Omega.{arith}
 use native.Mathlib.Nat.{mod-eq_of_lt, mul-le-mul_left}
 use lib.ListN.{length, get_or, set, take, drop}
-use Rattle.loops.specs.Loop.{iter, sum}
+use Rattle.loops.specs.Loop.{iter}
 use Rattle.netlist.specs.Net.{Net}
 use Rattle.gates.specs.declared.made.At.{At}
 use Rattle.gates.specs.Made.{MadeBit, MadeSum, net_of, made_of, sum_of, kept}

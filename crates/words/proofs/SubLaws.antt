@@ -1,23 +1,19 @@
 -- The laws of subtraction and of unsigned less-than, over the width.
-use mathlib.Core.Path.{◌≡◌, refl, ap, sym, ◌∙◌}
+use mathlib.Core.Path.{◌≡◌, ap, sym, ◌∙◌}
 use mathlib.Core.List.{List}
-use mathlib.Core.Bool.{Bool, true, false, not}
-use Prim.Native.Nat.{ℕ, zero, suc, ◌+◌, ◌*◌, ◌-◌, ◌^◌, ◌%◌, ◌≤◌, ◌<◌}
+use mathlib.Core.Bool.{Bool, true, false}
+use Prim.Native.Nat.{ℕ, ◌+◌, ◌*◌, ◌-◌, ◌^◌, ◌%◌, ◌≤◌, ◌<◌}
 use native.Mathlib.Omega.{arith}
 use native.Mathlib.Numerals.{add-one}
 use native.Mathlib.Nat.{pow-suc, add-mul-mod_self_left, mod-eq_of_lt}
 use lib.Dec.{ltb}
 use lib.ListN.{length, get_or}
 use borrow.Author.Tests.{lt-ltb, le-ltb}
-use Rattle.loops.specs.Loop.{bit, sum, pick}
-use Rattle.netlist.specs.Record.{Room}
+use Rattle.loops.specs.Loop.{bit}
 use Rattle.netlist.specs.Net.{Net, Assign, Obeys}
-use Rattle.netlist.specs.Bit.{is_known}
-use Rattle.netlist.proofs.BitLaws.{less-known}
-use Rattle.gates.specs.Made.{MadeBit}
 use Rattle.gates.specs.Fold.{not_cost}
 use Rattle.gates.specs.Adder.{adder_cost}
-use Rattle.gates.specs.Law.{Ext, Formed, BitLaw}
+use Rattle.gates.specs.Law.{Formed}
 use Rattle.gates.proofs.Laws.{ext_trans, ext-weaken, keeps, room_back}
 use Rattle.gates.proofs.FoldLaws.{not_known}
 use Rattle.gates.proofs.AdderLaws.{cost-known, cost-less}

@@ -1,5 +1,5 @@
 -- Words that are made bit by bit.
-use Rattle.std.specs.Prelude.{◌≡◌, List, Bool, true, false, not, ◌&&◌, ◌||◌, ℕ, ◌+◌, ◌≤◌, ◌<◌, get_or, set, length}
+use Rattle.std.specs.Prelude.{◌≡◌, List, Bool, not, ◌&&◌, ◌||◌, ℕ, ◌+◌, ◌≤◌, ◌<◌, get_or, set, length}
 use Rattle.loops.specs.Loop.{pick, iter, sum}
 use Rattle.netlist.specs.Record.{Room}
 use Rattle.netlist.specs.Kind.{xor}

@@ -1,5 +1,5 @@
 -- Sub: Nots of the right bits first, then an adder chain with carry known true. Ult: both sides widened by a known false, Sub, top result bit.
-use Rattle.std.specs.Prelude.{◌≡◌, List, Bool, ℕ, ◌+◌, ◌*◌, ◌^◌, ◌≤◌, ◌<◌, ltb, get_or, length}
+use Rattle.std.specs.Prelude.{◌≡◌, List, ℕ, ◌+◌, ◌*◌, ◌^◌, ltb, get_or, length}
 use Rattle.loops.specs.Loop.{bit}
 use Rattle.netlist.specs.Record.{Room}
 use Rattle.netlist.specs.Net.{Net, Assign, Obeys}

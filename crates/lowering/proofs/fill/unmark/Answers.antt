@@ -2,7 +2,6 @@ use Rattle.lowering.proofs.FillLaws.{fill-path, filled}
 use Rattle.loops.proofs.Loop.{loop-none, loop-more}
 use borrow.Author.Rules.{rules}
 use native.Mathlib.Omega.{arith}
-use Prim.Native.Nat.{◌-◌}
 use Rattle.lowering.proofs.fill.unmark.Goals as goal
 
 pub loop-i-init : goal.loop-i-init

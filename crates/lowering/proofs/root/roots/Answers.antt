@@ -3,7 +3,6 @@ use Rattle.nodes.specs.Source.{source}
 use Rattle.loops.proofs.Loop.{loop-none, loop-more}
 use borrow.Author.Rules.{rules}
 use native.Mathlib.Omega.{arith}
-use Prim.Native.Nat.{◌-◌}
 use Rattle.lowering.proofs.root.roots.Goals as goal
 
 pub loop-k-init : goal.loop-k-init

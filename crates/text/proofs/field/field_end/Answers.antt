@@ -1,5 +1,4 @@
 use mathlib.Core.Path.{refl}
-use Prim.Native.Nat.{◌-◌}
 use Rattle.text.proofs.Fields.{end-found, end_more, end_none}
 use borrow.Author.Rules.{rules}
 use native.Mathlib.Omega.{arith}

@@ -1,4 +1,3 @@
-use Prim.Native.Nat.{◌-◌}
 use Rattle.loops.proofs.Loop.{first-none}
 use Rattle.text.proofs.Names.{kind-found, kind-more, kind-none}
 use Rattle.text.specs.Key.{is_kind, kind_keys}

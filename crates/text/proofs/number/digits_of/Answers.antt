@@ -1,4 +1,3 @@
-use Prim.Native.Nat.{◌-◌}
 use Rattle.text.proofs.Numbers.{number-none, number_more, number-done}
 use borrow.Author.Rules.{rules}
 use native.Mathlib.Omega.{arith}

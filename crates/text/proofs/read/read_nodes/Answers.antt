@@ -1,5 +1,4 @@
 use mathlib.Core.Path.{refl, ◌∙◌}
-use Prim.Native.Nat.{◌-◌}
 use borrow.Author.Tests.{not-true, not-false}
 use Rattle.text.proofs.Fills.{fill-full}
 use Rattle.text.proofs.Readings.{node-bad, node-more, nodes-none}

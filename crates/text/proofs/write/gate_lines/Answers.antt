@@ -1,5 +1,4 @@
 use mathlib.Core.Path.{refl}
-use Prim.Native.Nat.{◌-◌}
 use Rattle.text.proofs.Writes.{each_none, each_more, each-done}
 use borrow.Author.Rules.{rules}
 use native.Mathlib.Omega.{arith}

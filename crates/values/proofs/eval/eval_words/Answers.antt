@@ -1,5 +1,4 @@
 use Rattle.std.proofs.Common.{arith}
-use borrow.Author.Tests.{not-false}
 use Rattle.table.proofs.Whole.{checked}
 use Rattle.values.proofs.eval.Laws.{words-fault, words-clear}
 use mathlib.Core.Path.{ap}

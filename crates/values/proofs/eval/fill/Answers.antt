@@ -1,4 +1,4 @@
-use Rattle.std.proofs.Common.{◌-◌, arith, rules}
+use Rattle.std.proofs.Common.{arith, rules}
 use Rattle.loops.proofs.Loop.{loop-none, loop-more, loop-done}
 use Rattle.values.proofs.eval.fill.Goals as goal
 

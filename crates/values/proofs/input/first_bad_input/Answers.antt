@@ -1,4 +1,4 @@
-use Rattle.std.proofs.Common.{◌-◌, arith, rules}
+use Rattle.std.proofs.Common.{arith, rules}
 use Rattle.loops.proofs.Loop.{first-none, first_more, first_found, first_done}
 use Rattle.values.proofs.input.first_bad_input.Goals as goal
 

@@ -1,5 +1,4 @@
 use borrow.Author.Rules.{rules}
-use native.Mathlib.Omega.{arith}
 use Rattle.netlist.specs.Kind.{value_of}
 use Rattle.loops.specs.Loop.{pick}
 use borrow.Author.Tests.{ne_eqb}
