@@ -1,10 +1,10 @@
 // What `--help` prints.
-use libc::STDOUT_FILENO;
+use std::io;
+use std::io::Print;
 
-// Whether all of it was written.
-pub fn help() -> bool {
-    io::write_all(
-        STDOUT_FILENO,
+// An Ok has written all of it.
+pub fn help(rt: &HostRuntime) -> io::Result<()> {
+    rt.write_all(
         b"ramstitcher lowers a BTOR2 model, written as a table of nodes, to gates.
 
     ramstitcher < model.tsv > gates.tsv

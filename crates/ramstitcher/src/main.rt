@@ -4,114 +4,118 @@
 
 mod help;
 
-ghost use Rattle.std.specs.Prelude.{◌≤◌, ◌<◌, length};
+ghost use Rattle.std.specs.Prelude.{◌≤◌, ◌<◌, length, IfOk};
 ghost use Rattle.stitch.specs.Printed as Printed;
 ghost use Rattle.ramstitcher.specs.Longest as Longest;
 
-use libc::{STDERR_FILENO, STDIN_FILENO, STDOUT_FILENO};
+use std::env::{Env, FillError};
+use std::io;
+use std::io::{Print, Read};
 use text::read::LONGEST;
 use text::write::ROOM;
 
 // One byte more than any acceptable text has: whoever has read so many knows that the text is refused.
 const ENOUGH: usize = LONGEST + 1;
 
-// Whether a read failed, and how many bytes were read.
-#[derive(Drop)]
-struct Got {
-    failed: bool,
-    count: usize,
-}
-
-// One read.
-fn read_some(fd: i32, rest: &mut [u8]) -> Got
-    ensures { result.count ≤ length rest.new }
+// One read, and how many bytes it gave.
+fn read_some(rt: &HostRuntime, rest: &mut [u8]) -> io::Result<usize>
+    ensures { IfOk result (λ n. n ≤ length rest.new) }
 {
-    let got = libc::read(fd, rest);
-    Got {
-        failed: got < 0,
-        count: io::count(got, rest),
-    }
+    rt.stdin().read(rest)
 }
 
-// Reads until the buffer is full, the input ends or a read fails. (The kit's `read_full` does not tell the last two apart, and a text that was cut
-// short by a failure is none that the user gave.)
-fn read_all(fd: i32, buffer: &mut [u8]) -> Got
-    ensures { result.count ≤ length buffer.new }
+// Reads until the buffer is full, the input ends or a read fails. (A text that was cut short by a failure is none that the user gave.)
+fn read_all(rt: &HostRuntime, buffer: &mut [u8]) -> io::Result<usize>
+    ensures { IfOk result (λ n. n ≤ length buffer.new) }
 {
     let mut done = 0;
     while done < buffer.len() {
-        let got = read_some(fd, &mut buffer[done..]);
-        if got.failed {
-            return Got {
-                failed: true,
-                count: done,
-            };
+        let got = read_some(rt, &mut buffer[done..])?;
+        if got == 0 {
+            return Ok(done);
         }
-        if got.count == 0 {
-            return Got {
-                failed: false,
-                count: done,
-            };
-        }
-        done += got.count;
+        done += got;
     }
-    Got {
-        failed: false,
-        count: done,
+    Ok(done)
+}
+
+// What the system says of a failure, without its number.
+fn without_number(text: &str) -> &str {
+    match text.split_once(" (os error ") {
+        Some((said, _)) => said,
+        None => text,
     }
 }
 
-// A write that failed is told on standard error: a program ends with no status of its own.
-fn tell(written: bool) {
-    if !written {
-        os::fail(b"ramstitcher: standard output");
+// A failure is told on standard error: the program ends with status 0 even then.
+fn tell(rt: &HostRuntime, stream: &str, error: io::Error) -> io::Result<()> {
+    let text = format!(in rt.alloc(); "{error}")?;
+    let said = without_number(text.as_str());
+    eprintln!(rt; "ramstitcher: {stream}: {said}")
+}
+
+fn tell_write(rt: &HostRuntime, written: io::Result<()>) -> io::Result<()> {
+    match written {
+        Ok(()) => Ok(()),
+        Err(error) => tell(rt, "standard output", error),
     }
 }
 
 // From standard input to standard output. The buffer takes more than any acceptable text, so that no text is cut to one that is acceptable
 // (proofs/Enough.antt); what could not be read is not answered.
-fn stitch_input(buffer: &mut [u8], out: &mut [u8])
+fn stitch_input(rt: &HostRuntime, buffer: &mut [u8], out: &mut [u8]) -> io::Result<()>
     requires { (Longest.LONGEST < length buffer.old) × (Printed.ROOM ≤ length out.old) }
 {
-    let got = read_all(STDIN_FILENO, buffer);
-    if got.failed {
-        os::fail(b"ramstitcher: standard input");
-        return;
+    match read_all(rt, buffer) {
+        Ok(n) => {
+            let end = stitch::answer(&buffer[..n], out);
+            tell_write(rt, rt.write_all(&out[..end]))
+        }
+        Err(error) => tell(rt, "standard input", error),
     }
-    let n = got.count;
-    let end = stitch::answer(&buffer[..n], out);
-    tell(io::write_all(STDOUT_FILENO, &out[..end]));
 }
 
-fn run() {
+fn run(rt: &HostRuntime) -> io::Result<()> {
     let mut buffer = [0u8; ENOUGH];
     let mut out = [0u8; ROOM];
-    stitch_input(&mut buffer, &mut out);
+    stitch_input(rt, &mut buffer, &mut out)
 }
 
-// The first argument is `--help`. Of one that does not fit the array the count is 0.
-fn asks_for_help() -> bool {
+// The first argument, as far as it matters: there is none, it is `--help`, or it is another one.
+#[derive(Clone, Copy)]
+enum Argument {
+    Nothing,
+    Help,
+    Other,
+}
+
+fn first_argument(rt: &HostRuntime) -> Argument {
     let mut word = [0u8; 8];
-    let n = os::arg(1, &mut word);
-    (n == 6)
-        & (word[0] == b'-')
-        & (word[1] == b'-')
-        & (word[2] == b'h')
-        & (word[3] == b'e')
-        & (word[4] == b'l')
-        & (word[5] == b'p')
+    match rt.arg(1, &mut word) {
+        Ok(n) => {
+            if (n == 6)
+                & (word[0] == b'-')
+                & (word[1] == b'-')
+                & (word[2] == b'h')
+                & (word[3] == b'e')
+                & (word[4] == b'l')
+                & (word[5] == b'p')
+            {
+                return Argument::Help;
+            }
+            Argument::Other
+        }
+        Err(FillError::NotPresent) => Argument::Nothing,
+        Err(FillError::TooLong) => Argument::Other,
+    }
 }
 
-fn main() {
-    // the program's own name is counted
-    if os::arg_count() < 2 {
-        run();
-    } else if asks_for_help() {
-        tell(help::help());
-    } else {
-        io::write_all(
-            STDERR_FILENO,
-            b"ramstitcher: reads standard input and takes no argument but --help\n",
-        );
+fn main(rt: HostRuntime) -> io::Result<()> {
+    match first_argument(&rt) {
+        Argument::Nothing => run(&rt),
+        Argument::Help => tell_write(&rt, help::help(&rt)),
+        Argument::Other => {
+            eprintln!(rt; "ramstitcher: reads standard input and takes no argument but --help")
+        }
     }
 }
