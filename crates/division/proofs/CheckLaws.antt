@@ -30,8 +30,8 @@ use Rattle.words.proofs.Sums.{sum-suc, sum-none, sum-most}
 use Rattle.words.proofs.NumLaws.{num-lt, blank-long}
 use Rattle.words.proofs.EachLaws.{each-law, below_more}
 use Rattle.words.proofs.SubLaws.{ult-law}
-use Rattle.words.proofs.MulLaws.{placed-law}
-use Rattle.words.proofs.MulLaws as mul
+use Rattle.words.proofs.MulStep.{placed-law}
+use Rattle.words.proofs.MulStep as mul
 use Rattle.division.specs.Constraint.{Cons, constrain, constrain_each, More, ConLaw}
 use Rattle.division.specs.Rows.{Checked, div_rows, rows_cost, rows_count, RowsLaw}
 use Rattle.division.specs.Check.{Book, sum_words, check_words, Divides, sum_cost, sum_count, check_cost, con_count, CheckLaw}

@@ -25,7 +25,7 @@ use Rattle.words.specs.Mul.{row_of, mul_cost}
 use Rattle.words.proofs.Sums.{sum-within}
 use Rattle.words.proofs.NumLaws.{blank-long}
 use Rattle.words.proofs.AddLaws.{chain-three}
-use Rattle.words.proofs.MulLaws.{row-cost}
+use Rattle.words.proofs.MulStep.{row-cost}
 use Rattle.words.proofs.Paths.{each-most}
 use Rattle.division.specs.Constraint.{put_con, Cons, cons_of, constrain, con_step, constrain_each, More}
 use Rattle.division.specs.Rows.{Checked, checked_of, places, row_step, div_rows, RowsLaw}

@@ -23,7 +23,7 @@ use Rattle.words.specs.Mul.{row_of, RowLaw, OntoLaw}
 use Rattle.words.proofs.Sums.{sum-suc, sum-none}
 use Rattle.words.proofs.NumLaws.{num-lt, num-suc, num-none, num-same, blank-long, blank-at}
 use Rattle.words.proofs.EachLaws.{below_more}
-use Rattle.words.proofs.MulLaws.{num-zero, num-split, row-law, placed-law, row-arith}
+use Rattle.words.proofs.MulStep.{num-zero, num-split, row-law, placed-law, row-arith}
 use Rattle.division.specs.Constraint.{Cons, constrain_each, ConLaw}
 use Rattle.division.specs.Rows.{Checked, places, row_step, rows_cost, rows_count, RowsLaw}
 use Rattle.division.proofs.ConstraintLaws.{more-refl, more-trans, more-as, room_back, holds-split, within-join, holds-none, within_none, one-law, then-law, All, each-law}

@@ -25,7 +25,7 @@ use Rattle.words.specs.Extend.{ExtendLaw}
 use Rattle.words.proofs.NumLaws.{num-none, blank-at}
 use Rattle.words.proofs.EachLaws.{below_more}
 use Rattle.words.proofs.EqLaws.{eq-law, eq-right, eq-same}
-use Rattle.words.proofs.MulLaws.{num-zero}
+use Rattle.words.proofs.MulStep.{num-zero}
 use Rattle.words.proofs.ExtendLaws.{extend-law}
 use Rattle.division.specs.Known.{answer_of}
 use Rattle.division.specs.Zero.{nonzero, zero_bit, raised, zero_word, RaisedLaw}

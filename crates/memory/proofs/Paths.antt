@@ -24,7 +24,7 @@ use Rattle.words.specs.Eq.{eq_words, eq_cost}
 use Rattle.words.proofs.NumLaws.{blank-long}
 use Rattle.words.proofs.EachLaws.{ors-cost, choose-cost}
 use Rattle.words.proofs.EqLaws.{eq-left}
-use Rattle.words.proofs.MulLaws.{row-cost}
+use Rattle.words.proofs.MulStep.{row-cost}
 use Rattle.words.proofs.Paths.{each-most}
 use Rattle.memory.specs.Address.{part, listed_at, at_listed}
 use Rattle.memory.specs.Read.{cleared, read_known, read_one, read_step, read_words}

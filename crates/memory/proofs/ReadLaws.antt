@@ -23,7 +23,7 @@ use Rattle.words.specs.declared.each.Bitwise.TheVariants.{Or, AndWith}
 use Rattle.words.specs.Num.{num, blank}
 use Rattle.words.specs.Each.{bit_value, bit_below, Word, each_bit, each_cost, EachLaw, put_bits}
 use Rattle.words.proofs.NumLaws.{num-known, blank-long, blank-at}
-use Rattle.words.proofs.MulLaws.{row-cost}
+use Rattle.words.proofs.MulStep.{row-cost}
 use Rattle.words.proofs.EachLaws.{ors-cost, each-law, each-ext, below_more, put-law}
 use Rattle.memory.specs.Address.{part, listed_at, at_listed, Listed, AtLaw, word_num}
 use Rattle.memory.specs.Read.{cleared, read_known, read_one, read_step, read_words, ReadLaw}

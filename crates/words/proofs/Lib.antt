@@ -6,7 +6,9 @@ pub mod ExtendLaws
 pub mod SubLaws
 pub mod JoinLaws
 pub mod EqLaws
+pub mod MulStep
 pub mod MulLaws
+pub mod StageLaws
 pub mod ShiftLaws
 pub mod OpLaws
 pub mod Paths

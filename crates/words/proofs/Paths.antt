@@ -33,7 +33,8 @@ use Rattle.words.proofs.AddLaws.{onto-law, copied-cost, chain-three}
 use Rattle.words.proofs.SubLaws.{nots-less, wide-cost}
 use Rattle.words.proofs.ExtendLaws.{extend-law}
 use Rattle.words.proofs.JoinLaws.{joins-ext}
-use Rattle.words.proofs.MulLaws.{row-cost, rows-room}
+use Rattle.words.proofs.MulStep.{row-cost}
+use Rattle.words.proofs.MulLaws.{rows-room}
 use Rattle.words.proofs.ShiftLaws.{clear-cost, stages-most}
 
 -- one bit, by the operation

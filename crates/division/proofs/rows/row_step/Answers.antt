@@ -2,7 +2,7 @@ use Rattle.words.specs.Num.{filled}
 use Prim.Native.Nat.{◌-◌}
 use lib.ListN.{get_or}
 use native.Mathlib.Omega.{arith}
-use Rattle.words.proofs.MulLaws.{row-cost}
+use Rattle.words.proofs.MulStep.{row-cost}
 use Rattle.division.specs.Rows.{places}
 use Rattle.division.proofs.Paths.{lost-room, chain-room, row-path, each-count}
 use Rattle.division.proofs.rows.row_step.Goals as goal

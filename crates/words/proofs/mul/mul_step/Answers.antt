@@ -1,7 +1,7 @@
 use Rattle.words.specs.Num.{filled}
 use native.Mathlib.Omega.{arith}
 use Rattle.words.proofs.Paths.{mul-room, mul-path}
-use Rattle.words.proofs.MulLaws.{row-cost}
+use Rattle.words.proofs.MulStep.{row-cost}
 use Prim.Native.Nat.{◌-◌}
 use lib.ListN.{get_or}
 use Rattle.words.proofs.mul.mul_step.Goals as goal
