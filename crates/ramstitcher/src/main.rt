@@ -81,41 +81,34 @@ fn run(rt: &HostRuntime) -> io::Result<()> {
     stitch_input(rt, &mut buffer, &mut out)
 }
 
-// The first argument, as far as it matters: there is none, it is `--help`, or it is another one.
-#[derive(Clone, Copy)]
-enum Argument {
-    Nothing,
-    Help,
-    Other,
-}
-
-fn first_argument(rt: &HostRuntime) -> Argument {
+// Whether there is an argument beside the program's own name.
+fn has_argument(rt: &HostRuntime) -> bool {
     let mut word = [0u8; 8];
     match rt.arg(1, &mut word) {
-        Ok(n) => {
-            if (n == 6)
-                & (word[0] == b'-')
-                & (word[1] == b'-')
-                & (word[2] == b'h')
-                & (word[3] == b'e')
-                & (word[4] == b'l')
-                & (word[5] == b'p')
-            {
-                return Argument::Help;
-            }
-            Argument::Other
-        }
-        Err(FillError::NotPresent) => Argument::Nothing,
-        Err(FillError::TooLong) => Argument::Other,
+        Err(FillError::NotPresent) => false,
+        _ => true,
     }
 }
 
+// The first argument is `--help`. Of one that does not fit the array the count is 0.
+fn asks_for_help(rt: &HostRuntime) -> bool {
+    let mut word = [0u8; 8];
+    let n = rt.arg(1, &mut word).unwrap_or(0);
+    (n == 6)
+        & (word[0] == b'-')
+        & (word[1] == b'-')
+        & (word[2] == b'h')
+        & (word[3] == b'e')
+        & (word[4] == b'l')
+        & (word[5] == b'p')
+}
+
 fn main(rt: HostRuntime) -> io::Result<()> {
-    match first_argument(&rt) {
-        Argument::Nothing => run(&rt),
-        Argument::Help => tell_write(&rt, help::help(&rt)),
-        Argument::Other => {
-            eprintln!(rt; "ramstitcher: reads standard input and takes no argument but --help")
-        }
+    if !has_argument(&rt) {
+        run(&rt)
+    } else if asks_for_help(&rt) {
+        tell_write(&rt, help::help(&rt))
+    } else {
+        eprintln!(rt; "ramstitcher: reads standard input and takes no argument but --help")
     }
 }
