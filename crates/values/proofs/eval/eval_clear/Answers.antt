@@ -7,7 +7,7 @@ pub offsets-room-requires : goal.offsets-room-requires
 offsets-room-requires c = record { n_bound = (c.requires.fine.short, omega arith, c.requires.fine.few, c.requires.fine.narrow); table_in_bounds = omega (arith, c.requires.fine.few, c.requires.in_bounds) }
 
 pub returns-then-values-room : goal.returns-then-values-room
-returns-then-values-room c = clear_room _ _ _ _ _ c.offsets-room.ensures.0 c.if-values-room.true
+returns-then-values-room c = clear_room _ _ _ _ _ c.offsets-room.ensures.0 (omega arith)
 
 pub first_bad_input-i-requires : goal.first_bad_input-i-requires
 first_bad_input-i-requires c = record { fine = c.requires.fine; offsets = stored _ _ _ _ _ _ (omega (arith, c.requires.fine.few, c.requires.in_bounds)) c.offsets-room.ensures.1 }
