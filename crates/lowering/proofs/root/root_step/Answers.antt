@@ -1,3 +1,4 @@
+use native.Mathlib.Omega.{arith}
 use Rattle.lowering.proofs.RootFacts.{root-skip, root-visit}
 use Rattle.lowering.specs.Visit.{low_of}
 use Rattle.nodes.specs.Source.{source}
@@ -7,4 +8,4 @@ pub returns-then-node-ne-BAD : goal.returns-then-node-ne-BAD
 returns-then-node-ne-BAD c = root-skip (source c.args.table.now c.args.addrs.now c.args.word) c.args.k _ c.node_at-node.ensures (low_of c.args.gates.now c.args.cons.now c.args.map.now c.args.seen.now c.args.p) c.if-node-ne-BAD.true
 
 pub returns : goal.returns
-returns c = root-visit (source c.args.table.now c.args.addrs.now c.args.word) c.args.k _ c.node_at-node.ensures (low_of c.args.gates.now c.args.cons.now c.args.map.now c.args.seen.now c.args.p) c.if-node-ne-BAD.false _ c.visit.ensures
+returns c = root-visit (source c.args.table.now c.args.addrs.now c.args.word) c.args.k _ c.node_at-node.ensures (low_of c.args.gates.now c.args.cons.now c.args.map.now c.args.seen.now c.args.p) (omega arith) _ c.visit.ensures
