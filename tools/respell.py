@@ -5,8 +5,8 @@
 
 Run once, after port.py, at the top of the repository (or on FOLDER). Each lower-case name with a capital in it (`gateAt`) that a file of
 specs/ or proofs/ declares is written in snake case (`gate_at`) wherever it stands: in .antt files, in clauses and comments of .rt files, in
-must-fail edits, and in README and docs/. Functions of src/, fields, types and modules keep their names: no function has a capital in its
-name. Where a lemma already had the name that a definition takes now, the lemma gets `_lem` after it.
+must-fail edits, and in README and docs/. Functions and fields of src/, types and modules keep their names: none of these functions and
+fields has a capital in its name. Fields of records of specs/ and proofs/ are spelled like definitions. Where a lemma already had the name that a definition takes now, the lemma gets `_lem` after it.
 """
 import collections, glob, os, re, sys
 
