@@ -10,12 +10,15 @@ ghost use Rattle.ramstitcher.specs.Longest as Longest;
 
 use std::env::{Env, FillError};
 use std::io;
-use std::io::{Print, Read};
+use std::io::{Cursor, Print, Read, Write};
 use text::read::LONGEST;
 use text::write::ROOM;
 
 // One byte more than any acceptable text has: whoever has read so many knows that the text is refused.
 const ENOUGH: usize = LONGEST + 1;
+
+// More bytes than an error of the system is told in: its text has 256 at most, and its number follows.
+const MESSAGE: usize = 320;
 
 // One read, and how many bytes it gave.
 fn read_some(rt: &HostRuntime, rest: &mut [u8]) -> io::Result<usize>
@@ -39,6 +42,14 @@ fn read_all(rt: &HostRuntime, buffer: &mut [u8]) -> io::Result<usize>
     Ok(done)
 }
 
+// The text of an error as far as it is text, which what the system says is.
+fn as_text(bytes: &[u8]) -> &str {
+    match str::from_utf8(bytes) {
+        Ok(text) => text,
+        Err(_) => "not told as text",
+    }
+}
+
 // What the system says of a failure, without its number.
 fn without_number(text: &str) -> &str {
     match text.split_once(" (os error ") {
@@ -49,8 +60,11 @@ fn without_number(text: &str) -> &str {
 
 // A failure is told on standard error: the program ends with status 0 even then.
 fn tell(rt: &HostRuntime, stream: &str, error: io::Error) -> io::Result<()> {
-    let text = format!(in rt.alloc(); "{error}")?;
-    let said = without_number(text.as_str());
+    let mut text = Cursor::new([0u8; MESSAGE]);
+    write!(text, "{error}")?;
+    let n = (text.position() as usize).min(MESSAGE);
+    let bytes = text.into_inner();
+    let said = without_number(as_text(&bytes[..n]));
     eprintln!(rt; "ramstitcher: {stream}: {said}")
 }
 
