@@ -6,7 +6,8 @@
 Run once, after port.py, at the top of the repository (or on FOLDER). Each lower-case name with a capital in it (`gateAt`) that a file of
 specs/ or proofs/ declares is written in snake case (`gate_at`) wherever it stands: in .antt files, in clauses and comments of .rt files, in
 must-fail edits, and in README and docs/. Functions and fields of src/, types and modules keep their names: none of these functions and
-fields has a capital in its name. Fields of records of specs/ and proofs/ are spelled like definitions. Where a lemma already had the name that a definition takes now, the lemma gets `_lem` after it.
+fields has a capital in its name. Fields of records of specs/ and proofs/ are spelled like definitions. Where a lemma already had the name that
+a definition takes now, the lemma gets `_lem` after it.
 """
 import collections, glob, os, re, sys
 
@@ -15,6 +16,7 @@ TOP = sys.argv[1] if len(sys.argv) > 1 else '.'
 LEMMAS = ['add_step', 'choose_word', 'each_step', 'each_word', 'join_step', 'pair_line', 'pair_row', 'pair_step', 'place_at', 'read_word',
           'row_step', 'write_step', 'asks_of']
 
+# names that port.py has turned where they are declared: in edits and papers they still stand in the old spelling
 TURNED = ['aboveOf', 'andAll', 'blockedOf', 'knownOf', 'madeBy', 'numberOf', 'roomFor', 'sextWord', 'slotAt', 'valueOf', 'rmU']
 
 def files(*patterns):
@@ -35,7 +37,6 @@ def main():
             if m:
                 declared.add(m.group(1))
     names = {n: snake(n) for n in declared if re.match(r'[a-z]', n) and re.search(r'[a-z0-9][A-Z]', n) and '-' not in n}
-    # what port.py has turned already stands in the old spelling in edits and papers still
     for n in TURNED:
         names[n] = snake(n)
     by_new = collections.Counter(names.values())

@@ -42,7 +42,7 @@ fn read_all(rt: &HostRuntime, buffer: &mut [u8]) -> io::Result<usize>
     Ok(done)
 }
 
-// The text of an error as far as it is text, which what the system says is.
+// An error's bytes as text. What the system says is text; where it were not, that is said.
 fn as_text(bytes: &[u8]) -> &str {
     match str::from_utf8(bytes) {
         Ok(text) => text,
