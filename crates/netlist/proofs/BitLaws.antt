@@ -1,12 +1,11 @@
 -- What a case by what is known of a bit comes to.
 use mathlib.Core.Path.{◌≡◌, refl, sym, ◌∙◌}
-use mathlib.Core.Bool.{true, false}
+use mathlib.Core.Bool.{Bool, true, false}
+use Rattle.std.specs.Prelude.{Option, Some, None}
 use Prim.Native.Nat.{ℕ, zero, suc, ◌≤◌, ◌<◌}
 use native.Mathlib.Omega.{arith}
 use borrow.Author.Tests.{ltb-true, ltb-false, lt-ltb, le-ltb, ne_eqb}
 use Rattle.loops.specs.Loop.{pick}
-use Rattle.netlist.specs.declared.bit.Known.{Known}
-use Rattle.netlist.specs.declared.bit.Known.TheVariants.{False, True, Unknown}
 use Rattle.netlist.specs.Bit.{is_known, known_of, by_known}
 
 pub known-less : (b : ℕ) → is_known b ≡ true → b < 2
@@ -33,28 +32,28 @@ by-known P (suc zero) x y z f g h = g refl
 by-known P (suc (suc b)) x y z f g h = rw (ne_eqb (suc (suc b)) 0 (λ e. omega arith), ne_eqb (suc (suc b)) 1 (λ e. omega arith)) (h (omega arith))
 
 -- the case that the code has taken
-module _ {A : Type 0} (k : Known) (b : ℕ) (x y z : A) (e : k ≡ known_of b) where
-  pub case-false : k ≡ False → x ≡ by_known (known_of b) x y z
+module _ {A : Type 0} (k : Option Bool) (b : ℕ) (x y z : A) (e : k ≡ known_of b) where
+  pub case-false : k ≡ Some false → x ≡ by_known (known_of b) x y z
   unfolding by_known
   case-false h = rw (← e, h)
 
-  pub case-true : k ≡ True → y ≡ by_known (known_of b) x y z
+  pub case-true : k ≡ Some true → y ≡ by_known (known_of b) x y z
   unfolding by_known
   case-true h = rw (← e, h)
 
-  pub case-unknown : k ≡ Unknown → z ≡ by_known (known_of b) x y z
+  pub case-unknown : k ≡ None → z ≡ by_known (known_of b) x y z
   unfolding by_known
   case-unknown h = rw (← e, h)
 
-by_name : (k : Known) → by_known k False True Unknown ≡ k
+by_name : (k : Option Bool) → by_known k (Some false) (Some true) None ≡ k
 unfolding by_known
-by_name False = refl
-by_name True = refl
-by_name Unknown = refl
+by_name (Some false) = refl
+by_name (Some true) = refl
+by_name None = refl
 
 -- a bit of which nothing is known is no constant
-pub told-unknown : (k : Known) (b : ℕ) → k ≡ known_of b → k ≡ Unknown → 2 ≤ b
+pub told-unknown : (k : Option Bool) (b : ℕ) → k ≡ known_of b → k ≡ None → 2 ≤ b
 told-unknown k b e h =
-    by-known (λ c. c ≡ Unknown → 2 ≤ b) b False True Unknown
-    (λ p q. absurd (let z : ◌≡◌ {A = ℕ} 0 1 = cc in omega arith)) (λ p q. absurd (let z : ◌≡◌ {A = ℕ} 0 1 = cc in omega arith)) (λ p q. p)
+    by-known (λ c. c ≡ None → 2 ≤ b) b (Some false) (Some true) None
+    (λ p q. cc) (λ p q. cc) (λ p q. p)
     (by_name (known_of b) ∙ (sym e ∙ h))

@@ -5,14 +5,6 @@ ghost use Rattle.netlist.specs.Bit.{known_of, is_known};
 
 use crate::record::Gate;
 
-// What is known of a bit.
-#[derive(Clone, Copy)]
-pub enum Known {
-    False,
-    True,
-    Unknown,
-}
-
 impl Gate {
     // The bit that is known to have a value.
     pub fn known(value: bool) -> u32
@@ -35,15 +27,14 @@ impl Gate {
         bit < 2
     }
 
-    pub fn of(bit: u32) -> Known
+    // The value that is known of a bit; none where it is not known.
+    pub fn of(bit: u32) -> Option<bool>
         ensures { result ≡ known_of bit }
     {
-        if bit == 0 {
-            return Known::False;
+        match bit {
+            0 => Some(false),
+            1 => Some(true),
+            _ => None,
         }
-        if bit == 1 {
-            return Known::True;
-        }
-        Known::Unknown
     }
 }

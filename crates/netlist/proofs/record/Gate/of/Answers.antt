@@ -4,14 +4,14 @@ use borrow.Author.Rules.{rules}
 use borrow.Author.Tests.{eq-eqb, ne_eqb}
 use Rattle.netlist.proofs.record.Gate.of.Goals as goal
 
-pub returns-then-bit-eq0 : goal.returns-then-bit-eq0
+pub returns-in-0 : goal.returns-in-0
 unfolding known_of pick
-returns-then-bit-eq0 c = search (rules, eq-eqb, ne_eqb)
+returns-in-0 c = search (rules, eq-eqb, ne_eqb)
 
-pub returns-then-bit-eq1 : goal.returns-then-bit-eq1
+pub returns-in-1 : goal.returns-in-1
 unfolding known_of pick
-returns-then-bit-eq1 c = search (rules, eq-eqb, ne_eqb)
+returns-in-1 c = search (rules, eq-eqb, ne_eqb)
 
-pub returns : goal.returns
+pub returns-in_default : goal.returns-in_default
 unfolding known_of pick
-returns c = search (rules, eq-eqb, ne_eqb)
+returns-in_default c = search (rules, eq-eqb, ne_eqb)
