@@ -1,9 +1,10 @@
 -- What an operation on bits makes of a net.
-use Rattle.std.specs.Prelude.{List, ℕ, ◌+◌, ◌<◌}
+use Rattle.std.specs.Prelude.{ℕ, ◌≡◌, ◌+◌, ◌<◌, length}
 use Rattle.netlist.specs.declared.record.Gate.{Gate}
 use Rattle.netlist.specs.Record.{gate, put, Room}
 use Rattle.netlist.specs.Net.{Net}
-use Rattle.gates.specs.declared.made.At.{At}
+use Rattle.gates.specs.declared.list.GateList.{GateList}
+use Rattle.gates.specs.declared.adder.Sum.{Sum}
 
 -- a bit, and the net that has its gate
 pub record MadeBit : Type 0 where
@@ -60,15 +61,19 @@ abbrev pub gate_remainder : ℕ → ℕ → Gate
 gate_remainder node bit = gate 13 node bit 0
 
 -- what the code has, as these definitions have it
-abbrev pub net_of : List ℕ → At → Net
-net_of g a = record { gates = g; n = a.n }
+abbrev pub net_of : GateList → Net
+net_of l = record { gates = l.records.now; n = l.n }
 
-abbrev pub made_of : List ℕ → At → ℕ → MadeBit
-made_of g a b = record { net = net_of g a; bit = b }
+abbrev pub made_of : GateList → ℕ → MadeBit
+made_of l b = record { net = net_of l; bit = b }
 
-abbrev pub sum_of : List ℕ → At → ℕ → ℕ → MadeSum
-sum_of g a s c = record { net = net_of g a; sum = s; carry = c }
+abbrev pub sum_of : GateList → Sum → MadeSum
+sum_of l s = record { net = net_of l; sum = s.sum; carry = s.carry }
 
 -- k more records fit the buffer, and their numbers a u32
-abbrev pub Fits : List ℕ → At → ℕ → Type 0
-Fits l a k = Room l (a.n + k) × (a.n + k < 4294967296)
+abbrev pub Fits : GateList → ℕ → Type 0
+Fits l k = Room l.records.now (l.n + k) × (l.n + k < 4294967296)
+
+-- the list is made in the same lent buffer, which keeps its length
+abbrev pub SameList : GateList → GateList → Type 0
+SameList old new = (new.records.ghost_name ≡ old.records.ghost_name) × (length new.records.now ≡ length old.records.now)

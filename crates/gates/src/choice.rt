@@ -1,103 +1,92 @@
 // The choice of one of two bits by a condition.
 ghost use Rattle.std.specs.Prelude.{◌≡◌, ℕ, ◌+◌};
-ghost use Rattle.gates.specs.Made.{net_of, made_of, Fits};
+ghost use Rattle.gates.specs.Made.{net_of, made_of, Fits, SameList};
 ghost use Rattle.gates.specs.Choice.{true_side, false_side, both_sides, choice_bit, mux_bit};
 
-use crate::made::{At, Made};
-use crate::{fold, made};
-use netlist::bit::Known;
+use crate::list::GateList;
 use netlist::record::Gate;
 
-fn true_side(gates: &mut [u32], at: At, c: u32, t: u32) -> Made
-    requires { Fits gates.old at 1 }
-    ensures { made_of gates.new result.at result.bit ≡ true_side (net_of gates.old at) c t }
-{
-    let side = Gate::of(t);
-    match side {
-        Known::False => Made {
-            bit: Gate::known(false),
-            at,
-        },
-        Known::True => Made { bit: c, at },
-        Known::Unknown => fold::and_bit(gates, at, t, c),
-    }
-}
-
-fn false_side(gates: &mut [u32], at: At, c: u32, f: u32) -> Made
-    requires { Fits gates.old at 1 }
-    ensures { made_of gates.new result.at result.bit ≡ false_side (net_of gates.old at) c f }
-{
-    let side = Gate::of(f);
-    match side {
-        Known::False => Made {
-            bit: Gate::known(false),
-            at,
-        },
-        Known::True => fold::not_bit(gates, at, c),
-        Known::Unknown => made::append(
-            gates,
-            at,
-            Gate {
-                kind: Gate::MATRIARCH1,
-                x: c,
-                y: f,
-                z: 0,
-            },
-        ),
-    }
-}
-
-fn both_sides(gates: &mut [u32], at: At, c: u32, t: u32, f: u32) -> Made
-    requires { Fits gates.old at 3 }
-    ensures { made_of gates.new result.at result.bit ≡ both_sides (net_of gates.old at) c t f }
-{
-    let x = true_side(gates, at, c, t);
-    let y = false_side(gates, x.at, c, f);
-    fold::or_bit(gates, y.at, x.bit, y.bit)
-}
-
-// By a condition that is not known.
-fn choice_bit(gates: &mut [u32], at: At, c: u32, t: u32, f: u32) -> Made
-    requires { Fits gates.old at 3 }
-    ensures { made_of gates.new result.at result.bit ≡ choice_bit (net_of gates.old at) c t f }
-{
-    if Gate::is_known(t) & Gate::is_known(f) {
-        if t == f {
-            return Made { bit: t, at };
+impl GateList<'_> {
+    #[tactic(auto, using(crate::proofs::Paths::steps), unfolding(crate::specs::Choice::true_side, netlist::specs::Bit::by_known))]
+    fn true_side(&mut self, c: u32, t: u32) -> u32
+        requires { Fits self.old 1 }
+        ensures same { SameList self.old self.new }
+        ensures made { made_of self.new result ≡ true_side (net_of self.old) c t }
+    {
+        match Gate::of(t) {
+            Some(false) => Gate::known(false),
+            Some(true) => c,
+            None => self.and_bit(t, c),
         }
-        if t == Gate::known(true) {
-            return Made { bit: c, at };
+    }
+
+    #[tactic(auto, using(crate::proofs::Paths::steps), unfolding(crate::specs::Choice::false_side, netlist::specs::Bit::by_known))]
+    fn false_side(&mut self, c: u32, f: u32) -> u32
+        requires { Fits self.old 1 }
+        ensures same { SameList self.old self.new }
+        ensures made { made_of self.new result ≡ false_side (net_of self.old) c f }
+    {
+        match Gate::of(f) {
+            Some(false) => Gate::known(false),
+            Some(true) => self.not_bit(c),
+            None => self.append(Gate::MATRIARCH1, c, f, 0),
         }
-        return fold::not_bit(gates, at, c);
     }
-    both_sides(gates, at, c, t, f)
-}
 
-// By any condition: a known one picks without gates.
-pub fn mux_bit(gates: &mut [u32], at: At, c: u32, t: u32, f: u32) -> Made
-    requires { Fits gates.old at 3 }
-    ensures { made_of gates.new result.at result.bit ≡ mux_bit (net_of gates.old at) c t f }
-{
-    let condition = Gate::of(c);
-    match condition {
-        Known::True => Made { bit: t, at },
-        Known::False => Made { bit: f, at },
-        Known::Unknown => choice_bit(gates, at, c, t, f),
+    #[tactic(auto, using(crate::proofs::Paths::steps), unfolding(crate::specs::Choice::both_sides))]
+    fn both_sides(&mut self, c: u32, t: u32, f: u32) -> u32
+        requires { Fits self.old 3 }
+        ensures same { SameList self.old self.new }
+        ensures made { made_of self.new result ≡ both_sides (net_of self.old) c t f }
+    {
+        let x = self.true_side(c, t);
+        let y = self.false_side(c, f);
+        self.or_bit(x, y)
     }
-}
 
-// Of known false and a bit: where the condition is not known the false side stands alone, since the true side is known false and the Or folds.
-pub fn clear_bit(gates: &mut [u32], at: At, c: u32, f: u32) -> Made
-    requires { Fits gates.old at 1 }
-    ensures { made_of gates.new result.at result.bit ≡ mux_bit (net_of gates.old at) c 0 f }
-{
-    let condition = Gate::of(c);
-    match condition {
-        Known::True => Made {
-            bit: Gate::known(false),
-            at,
-        },
-        Known::False => Made { bit: f, at },
-        Known::Unknown => false_side(gates, at, c, f),
+    // By a condition that is not known.
+    #[tactic(auto, using(crate::proofs::Paths::steps), unfolding(crate::specs::Choice::choice_bit, loops::specs::Loop::pick))]
+    fn choice_bit(&mut self, c: u32, t: u32, f: u32) -> u32
+        requires { Fits self.old 3 }
+        ensures same { SameList self.old self.new }
+        ensures made { made_of self.new result ≡ choice_bit (net_of self.old) c t f }
+    {
+        if !(Gate::is_known(t) & Gate::is_known(f)) {
+            self.both_sides(c, t, f)
+        } else if t == f {
+            t
+        } else if t == Gate::known(true) {
+            c
+        } else {
+            self.not_bit(c)
+        }
+    }
+
+    // By any condition: a known one picks without gates.
+    #[tactic(auto, using(crate::proofs::Paths::steps), unfolding(crate::specs::Choice::mux_bit, netlist::specs::Bit::by_known))]
+    pub fn mux_bit(&mut self, c: u32, t: u32, f: u32) -> u32
+        requires { Fits self.old 3 }
+        ensures same { SameList self.old self.new }
+        ensures made { made_of self.new result ≡ mux_bit (net_of self.old) c t f }
+    {
+        match Gate::of(c) {
+            Some(true) => t,
+            Some(false) => f,
+            None => self.choice_bit(c, t, f),
+        }
+    }
+
+    // Of known false and a bit: where the condition is not known the false side stands alone, since the true side is known false and the Or folds.
+    #[tactic(auto, using(crate::proofs::Paths::steps), unfolding(crate::specs::Choice::mux_bit, netlist::specs::Bit::by_known))]
+    pub fn clear_bit(&mut self, c: u32, f: u32) -> u32
+        requires { Fits self.old 1 }
+        ensures same { SameList self.old self.new }
+        ensures made { made_of self.new result ≡ mux_bit (net_of self.old) c 0 f }
+    {
+        match Gate::of(c) {
+            Some(true) => Gate::known(false),
+            Some(false) => f,
+            None => self.false_side(c, f),
+        }
     }
 }

@@ -4,5 +4,4 @@
 pub mod adder;
 pub mod choice;
 pub mod fold;
-pub mod given;
-pub mod made;
+pub mod list;
