@@ -1,11 +1,14 @@
 -- The law of a word that is made bit by bit, once for every operation and every width.
 use mathlib.Core.Path.{◌≡◌, refl, ap, ◌∙◌}
 use mathlib.Core.List.{List}
-use Prim.Native.Nat.{ℕ, suc, ◌+◌, ◌*◌, ◌≤◌, ◌<◌}
+use Prim.Native.Nat.{ℕ, suc, ◌+◌, ◌-◌, ◌*◌, ◌≤◌, ◌<◌}
 use native.Mathlib.Omega.{arith}
 use native.Mathlib.Decide.{dec_lt}
 use lib.Dec.{eqb}
-use lib.ListN.{length, get_or, set, length-set}
+use lib.ListN.{length, get_or, set, take, length-set}
+use borrow.Rule.Slice.PartMut.{put_mid}
+use Rattle.std.proofs.Common.{rules}
+use Rattle.std.proofs.lemmas.List.{places, ext_get_or}
 use lib.Seq.{get_or-set_same, get_or-set_other}
 use Rattle.loops.specs.Loop.{pick}
 use Rattle.loops.proofs.Loop.{iter-inv}
@@ -193,3 +196,9 @@ put-law from bits map w fits =
           below = λ k h. get_or-set_other x (from + i) k _ 0 (omega arith) ∙ p.below k h;
           above = λ k h. get_or-set_other x (from + i) k _ 0 (omega arith) ∙ p.above k (omega arith);
         }
+
+-- a part of a list written over with a word's bits
+pub put-mid : (from : ℕ) (bits map part : List ℕ) (w k : ℕ) → from + w ≤ length map → w ≤ length bits → k ≡ w → part ≡ take w bits → put_mid from k map part ≡ put_bits from bits w map
+put-mid from bits map part w k h g q p =
+    let m = put-law from bits map w h in
+    rw (q, p) (ext_get_or 0 _ _ (search (rules, places)) (λ i l. grind (arith, places, m.long, m.there (i - from), m.below i, m.above i)))

@@ -80,7 +80,6 @@ pub blank-long : length blank ≡ 65
 blank-long = filled-long 0
 
 zeros-at : (n j : ℕ) → ◌≡◌ {A = ℕ} (get_or (replicate n 0) j 0) 0
-unfolding get_or replicate
 zeros-at zero j = refl
 zeros-at (suc n) zero = refl
 zeros-at (suc n) (suc j) = zeros-at n j

@@ -7,10 +7,9 @@ use native.Mathlib.Nat.{mod-eq_of_lt, mul-le-mul_left}
 use lib.ListN.{length, get_or, set, take, drop}
 use Rattle.loops.specs.Loop.{iter}
 use Rattle.netlist.specs.Net.{Net}
-use Rattle.gates.specs.declared.made.At.{At}
+use Rattle.gates.specs.declared.list.GateList.{GateList}
+use Rattle.gates.specs.declared.adder.Sum.{Sum}
 use Rattle.gates.specs.Made.{MadeBit, MadeSum, net_of, made_of, sum_of, kept}
-use Rattle.gates.specs.Fold.{not_bit, and_bit, or_bit, xnor_bit, not_cost, xnor_cost}
-use Rattle.gates.specs.Choice.{mux_bit}
 use Rattle.gates.specs.Adder.{adder_bit, adder_cost}
 use Rattle.digits.specs.Digits.{put_digits, powers_below}
 use Rattle.digits.proofs.Numbers.{powers-each, powers-less}
@@ -37,116 +36,55 @@ use Rattle.words.proofs.MulStep.{row-cost}
 use Rattle.words.proofs.MulLaws.{rows-room}
 use Rattle.words.proofs.ShiftLaws.{clear-cost, stages-most}
 
--- one bit, by the operation
-module _ (s : Net) (m : MadeBit) (op : Bitwise) (a b : ℕ) where
-  pub is-not : op ≡ Not → m ≡ not_bit s a → m ≡ bitwise op s a b
-  unfolding bitwise
-  is-not h q = rw h q
-
-  pub is-and : op ≡ And → m ≡ and_bit s a b → m ≡ bitwise op s a b
-  unfolding bitwise
-  is-and h q = rw h q
-
-  pub is-or : op ≡ Or → m ≡ or_bit s a b → m ≡ bitwise op s a b
-  unfolding bitwise
-  is-or h q = rw h q
-
-  pub is-xnor : op ≡ Xnor → m ≡ xnor_bit s a b → m ≡ bitwise op s a b
-  unfolding bitwise
-  is-xnor h q = rw h q
-
-  pub is-and-with : (c : ℕ) → op ≡ AndWith c → m ≡ and_bit s a c → m ≡ bitwise op s a b
-  unfolding bitwise
-  is-and-with c h q = rw h q
-
-  pub is-choose : (c : ℕ) → op ≡ Choose c → m ≡ mux_bit s c a b → m ≡ bitwise op s a b
-  unfolding bitwise
-  is-choose c h q = rw h q
-
-  pub is-clear : (c : ℕ) → op ≡ Clear c → m ≡ mux_bit s c 0 b → m ≡ bitwise op s a b
-  unfolding bitwise
-  is-clear c h q = rw h q
-
-module _ (op : Bitwise) (a b : ℕ) where
-  pub cost-not : op ≡ Not → bit_cost op a b ≡ not_cost a
-  unfolding bit_cost
-  cost-not h = rw h
-
-  pub cost-and : op ≡ And → bit_cost op a b ≡ 1
-  unfolding bit_cost
-  cost-and h = rw h
-
-  pub cost-or : op ≡ Or → bit_cost op a b ≡ 1
-  unfolding bit_cost
-  cost-or h = rw h
-
-  pub cost-xnor : op ≡ Xnor → bit_cost op a b ≡ xnor_cost a b
-  unfolding bit_cost
-  cost-xnor h = rw h
-
-  pub cost-and-with : (c : ℕ) → op ≡ AndWith c → bit_cost op a b ≡ 1
-  unfolding bit_cost
-  cost-and-with c h = rw h
-
-  pub cost-choose : (c : ℕ) → op ≡ Choose c → bit_cost op a b ≡ 3
-  unfolding bit_cost
-  cost-choose c h = rw h
-
-  pub cost-clear : (c : ℕ) → op ≡ Clear c → bit_cost op a b ≡ 1
-  unfolding bit_cost
-  cost-clear c h = rw h
-
 -- a word bit by bit
-pub placed-path : (m : MadeBit) (g out : List ℕ) (n : At) (b i : ℕ) → made_of g n b ≡ m → word_of g n (set out i b) ≡ placed m i out
-placed-path m g out n b i e = ap {B = Word} (λ (m : MadeBit). placed m i out) e
-
-pub each-path : (op : Bitwise) (left right g out : List ℕ) (n : At) (i : ℕ) (x : Word) → x ≡ placed (bitwise op (net_of g n) (get_or left i 0) (get_or right i 0)) i out
-    → x ≡ each_step op left right i (word_of g n out)
+pub each-turn : (op : Bitwise) (left right : List ℕ) (t t' : GateList) (out : List ℕ) (b i : ℕ) → made_of t' b ≡ bitwise op (net_of t) (get_or left i 0) (get_or right i 0)
+    → word_of t' (set out i b) ≡ each_step op left right i (word_of t out)
 unfolding each_step
-each-path op left right g out n i x e = e
+each-turn op left right t t' out b i e = ap {B = Word} (λ (m : MadeBit). placed m i out) e
 
-module _ (op : Bitwise) (left right : List ℕ) (s : Word) (g out : List ℕ) (n : At) (i : ℕ) (e : word_of g n out ≡ each_bit op left right i s) where
-  pub each-most : n.n ≤ s.net.n + each_cost op left right i
+module _ (op : Bitwise) (left right : List ℕ) (s : Word) (t : GateList) (out : List ℕ) (i : ℕ) (e : word_of t out ≡ each_bit op left right i s) where
+  pub each-most : t.n ≤ s.net.n + each_cost op left right i
   each-most = omega (arith, ap (λ (x : Word). x.net.n) e, (each-ext op left right s i).grows.upto)
 
-  pub each-gates : length g ≡ length s.net.gates
+  pub each-gates : length t.records.now ≡ length s.net.gates
   each-gates = ap (λ (x : Word). length x.net.gates) e ∙ (each-ext op left right s i).grows.long
 
   pub each-out : length out ≡ length s.out
   each-out = ap (λ (x : Word). length x.out) e ∙ each_long op left right s i
 
   -- room for bit i, where there is room for w of them
-  pub each-room : (w : ℕ) → i < w → n.n + bit_cost op (get_or left i 0) (get_or right i 0) ≤ s.net.n + each_cost op left right w
+  pub each-room : (w : ℕ) → i < w → t.n + bit_cost op (get_or left i 0) (get_or right i 0) ≤ s.net.n + each_cost op left right w
   each-room w l = omega (arith, each-most, sum-within (λ j. bit_cost op (get_or left j 0) (get_or right j 0)) i w l)
 
 -- onto the right word itself: the bit that comes next is as it was
-module _ (op : Bitwise) (left : List ℕ) (s : Word) (g out : List ℕ) (n : At) (i : ℕ) (e : word_of g n out ≡ each_bit op left s.out i s) where
+module _ (op : Bitwise) (left : List ℕ) (s : Word) (t : GateList) (out : List ℕ) (i : ℕ) (e : word_of t out ≡ each_bit op left s.out i s) where
   same_bit : get_or out i 0 ≡ get_or s.out i 0
   same_bit = ap (λ (x : Word). get_or x.out i 0) e ∙ each-rest op left s.out s i i (omega arith)
 
-  pub each-onto-room : (w : ℕ) → i < w → n.n + bit_cost op (get_or left i 0) (get_or out i 0) ≤ s.net.n + each_cost op left s.out w
-  each-onto-room w l = rw same_bit (each-room op left s.out s g out n i e w l)
+  pub each-onto-room : (w : ℕ) → i < w → t.n + bit_cost op (get_or left i 0) (get_or out i 0) ≤ s.net.n + each_cost op left s.out w
+  each-onto-room w l = rw same_bit (each-room op left s.out s t out i e w l)
 
-  pub each-onto-path : (x : Word) → x ≡ placed (bitwise op (net_of g n) (get_or left i 0) (get_or out i 0)) i out → x ≡ each_step op left s.out i (word_of g n out)
-  each-onto-path x q = each-path op left s.out g out n i x (rw same_bit at q)
+  pub each-onto-turn : (t' : GateList) (b : ℕ) → made_of t' b ≡ bitwise op (net_of t) (get_or left i 0) (get_or out i 0)
+      → word_of t' (set out i b) ≡ each_step op left s.out i (word_of t out)
+  each-onto-turn t' b q = each-turn op left s.out t t' out b i (rw same_bit at q)
 
 pub copy-path : (from : ℕ) (bits map : List ℕ) (i : ℕ) → set map (from + i) (get_or bits i 0) ≡ copy_step from bits i map
 unfolding copy_step
 copy-path from bits map i = refl
 
 -- a chain of adders
-pub add-path : (from : ℕ) (right g g' out : List ℕ) (n n' : At) (c c' b j : ℕ) → sum_of g' n' b c' ≡ adder_bit (net_of g n) (get_or out (from + j) 0) (get_or right j 0) c
-    → chain_of g' n' c' (set out (from + j) b) ≡ add_step from right j (chain_of g n c out)
+pub add-path : (from : ℕ) (right out : List ℕ) (t t' : GateList) (c j : ℕ) (s : Sum) → sum_of t' s ≡ adder_bit (net_of t) (get_or out (from + j) 0) (get_or right j 0) c
+    → chain_of t' s.carry (set out (from + j) s.sum) ≡ add_step from right j (chain_of t c out)
 unfolding add_step
-add-path from right g g' out n n' c c' b j e =
+add-path from right out t t' c j s e =
     ap {B = Chain} (λ (m : MadeSum). record { net = m.net; carry = m.carry; out = set out (from + j) m.sum }) e
 
-module _ (from : ℕ) (right : List ℕ) (s : Chain) (g out : List ℕ) (n : At) (c j : ℕ) (e : chain_of g n c out ≡ add_onto from right j s) where
-  pub onto-most : from + j ≤ length s.out → n.n ≤ s.net.n + chain_cost from s.out right j
+module _ (from : ℕ) (right : List ℕ) (s : Chain) (t : GateList) (out : List ℕ) (c j : ℕ) (e : chain_of t c out ≡ add_onto from right j s) where
+  pub onto-most : from + j ≤ length s.out → t.n ≤ s.net.n + chain_cost from s.out right j
   onto-most h = omega (arith, ap (λ (x : Chain). x.net.n) e, (onto-law from right s j h).ext.grows.upto)
 
   -- room for the adder at place j, where there is room for w of them
-  pub onto-room : (w : ℕ) → j < w → from + w ≤ length s.out → n.n + adder_cost (get_or out (from + j) 0) (get_or right j 0) ≤ s.net.n + chain_cost from s.out right w
+  pub onto-room : (w : ℕ) → j < w → from + w ≤ length s.out → t.n + adder_cost (get_or out (from + j) 0) (get_or right j 0) ≤ s.net.n + chain_cost from s.out right w
   onto-room w l h =
       let q : get_or out (from + j) 0 ≡ get_or s.out (from + j) 0 =
       ap (λ (x : Chain). get_or x.out (from + j) 0) e ∙ (onto-law from right s j (omega arith)).above (from + j) (omega arith) in
@@ -157,34 +95,34 @@ pub put-long : (from : ℕ) (bits map out : List ℕ) (w : ℕ) → from + w ≤
 put-long from bits map out w h e = rw e (put-law from bits map w h).long
 
 -- the left word copied, and the right one added onto it
-module _ (left right g out out₁ : List ℕ) (n : At) (w : ℕ) (p : out₁ ≡ put_bits 0 left w out) where
+module _ (left right : List ℕ) (t : GateList) (out out₁ : List ℕ) (w : ℕ) (p : out₁ ≡ put_bits 0 left w out) where
   pub add-words-room : w ≤ length out → (c : ℕ) → chain_cost 0 out₁ right w ≤ add_cost left right w
-  add-words-room h c = rw p (copied-cost left right (chain_of g n c out) w h)
+  add-words-room h c = rw p (copied-cost left right (chain_of t c out) w h)
 
-  pub add-words-path : (g₂ out₂ : List ℕ) (n₂ : At) (c c₂ : ℕ) → chain_of g₂ n₂ c₂ out₂ ≡ add_onto 0 right w (chain_of g n c out₁)
-      → chain_of g₂ n₂ c₂ out₂ ≡ add_words w left right (chain_of g n c out)
-  add-words-path g₂ out₂ n₂ c c₂ q = q ∙ ap (λ (l : List ℕ). add_onto 0 right w (chain_of g n c l)) p
+  pub add-words-path : (t₂ : GateList) (out₂ : List ℕ) (c c₂ : ℕ) → chain_of t₂ c₂ out₂ ≡ add_onto 0 right w (chain_of t c out₁)
+      → chain_of t₂ c₂ out₂ ≡ add_words w left right (chain_of t c out)
+  add-words-path t₂ out₂ c c₂ q = q ∙ ap (λ (l : List ℕ). add_onto 0 right w (chain_of t c l)) p
 
 -- the Nots, and the chain over them
-module _ (left right g g₁ nots : List ℕ) (n n₁ : At) (w : ℕ) (e : word_of g₁ n₁ nots ≡ each_bit Not right right w (word_of g n blank)) where
-  pub sub-room : (out : List ℕ) → w ≤ 65 → w ≤ length out → n₁.n + add_cost left nots w ≤ n.n + sub_cost left right w
+module _ (left right : List ℕ) (t t₁ : GateList) (nots : List ℕ) (w : ℕ) (e : word_of t₁ nots ≡ each_bit Not right right w (word_of t blank)) where
+  pub sub-room : (out : List ℕ) → w ≤ 65 → w ≤ length out → t₁.n + add_cost left nots w ≤ t.n + sub_cost left right w
   sub-room out h k =
-      let q : nots ≡ (each_bit Not right right w (word_of g n blank)).out = ap (λ (x : Word). x.out) e in
-      let r : add_cost left nots w ≡ add_cost left (each_bit Not right right w (word_of g n blank)).out w = ap (λ (l : List ℕ). add_cost left l w) q in
-      omega (arith, each-most Not right right (word_of g n blank) g₁ nots n₁ w e, nots-less w left right (net_of g n) out h k)
+      let q : nots ≡ (each_bit Not right right w (word_of t blank)).out = ap (λ (x : Word). x.out) e in
+      let r : add_cost left nots w ≡ add_cost left (each_bit Not right right w (word_of t blank)).out w = ap (λ (l : List ℕ). add_cost left l w) q in
+      omega (arith, each-most Not right right (word_of t blank) t₁ nots w e, nots-less w left right (net_of t) out h k)
 
-  pub sub-path : (g₂ out out₂ : List ℕ) (n₂ : At) (c₂ : ℕ) → chain_of g₂ n₂ c₂ out₂ ≡ add_words w left nots (chain_of g₁ n₁ 1 out)
-      → chain_of g₂ n₂ c₂ out₂ ≡ sub_words w left right (net_of g n) out
+  pub sub-path : (t₂ : GateList) (out out₂ : List ℕ) (c₂ : ℕ) → chain_of t₂ c₂ out₂ ≡ add_words w left nots (chain_of t₁ 1 out)
+      → chain_of t₂ c₂ out₂ ≡ sub_words w left right (net_of t) out
   unfolding sub_words
-  sub-path g₂ out out₂ n₂ c₂ q =
+  sub-path t₂ out out₂ c₂ q =
       q ∙ ap {B = Chain} (λ (r : Word). add_words w left r.out (record { net = r.net; carry = 1; out = out })) e
 
-pub ult-path : (left right g g₁ wl wr d : List ℕ) (n n₁ : At) (w c₁ : ℕ) → wl ≡ put_bits 0 left w blank → wr ≡ put_bits 0 right w blank
-    → chain_of g₁ n₁ c₁ d ≡ sub_words (w + 1) wl wr (net_of g n) blank → made_of g₁ n₁ (get_or d w 0) ≡ ult_words w left right (net_of g n)
+pub ult-path : (left right wl wr d : List ℕ) (t t₁ : GateList) (w c₁ : ℕ) → wl ≡ put_bits 0 left w blank → wr ≡ put_bits 0 right w blank
+    → chain_of t₁ c₁ d ≡ sub_words (w + 1) wl wr (net_of t) blank → made_of t₁ (get_or d w 0) ≡ ult_words w left right (net_of t)
 unfolding ult_words
-ult-path left right g g₁ wl wr d n n₁ w c₁ p q e =
-    ap {B = MadeBit} (λ (c : Chain). kept c.net (get_or c.out w 0)) (e ∙ (ap (λ (l : List ℕ). sub_words (w + 1) l wr (net_of g n) blank) p
-    ∙ ap (λ (l : List ℕ). sub_words (w + 1) (extended 0 w left) l (net_of g n) blank) q))
+ult-path left right wl wr d t t₁ w c₁ p q e =
+    ap {B = MadeBit} (λ (c : Chain). kept c.net (get_or c.out w 0)) (e ∙ (ap (λ (l : List ℕ). sub_words (w + 1) l wr (net_of t) blank) p
+    ∙ ap (λ (l : List ℕ). sub_words (w + 1) (extended 0 w left) l (net_of t) blank) q))
 
 -- bits joined
 pub joins-and : Joins And
@@ -195,24 +133,24 @@ pub joins-or : Joins Or
 unfolding bit_cost
 joins-or a b = omega arith
 
-pub join-path : (op : Bitwise) (bits g : List ℕ) (n : At) (b i : ℕ) (m : MadeBit) → m ≡ bitwise op (net_of g n) b (get_or bits (i + 1) 0) → m ≡ join_step op bits i (made_of g n b)
+pub join-path : (op : Bitwise) (bits : List ℕ) (t : GateList) (b i : ℕ) (m : MadeBit) → m ≡ bitwise op (net_of t) b (get_or bits (i + 1) 0) → m ≡ join_step op bits i (made_of t b)
 unfolding join_step
-join-path op bits g n b i m e = e
+join-path op bits t b i m e = e
 
-module _ (op : Bitwise) (bits : List ℕ) (s : Net) (g : List ℕ) (n : At) (b b₀ i : ℕ) (e : made_of g n b ≡ iter i (join_step op bits) (kept s b₀)) (one : Joins op) where
-  joins-most : n.n ≤ s.n + i
+module _ (op : Bitwise) (bits : List ℕ) (s : Net) (t : GateList) (b b₀ i : ℕ) (e : made_of t b ≡ iter i (join_step op bits) (kept s b₀)) (one : Joins op) where
+  joins-most : t.n ≤ s.n + i
   joins-most = omega (arith, ap (λ (m : MadeBit). m.net.n) e, (joins-ext op bits s b₀ i one).grows.upto)
 
-  pub joins-room : (c w : ℕ) → i < w → n.n + bit_cost op b c ≤ s.n + w
+  pub joins-room : (c w : ℕ) → i < w → t.n + bit_cost op b c ≤ s.n + w
   joins-room c w l = omega (arith, joins-most, one b c)
 
-module _ (left right g g₁ x : List ℕ) (n n₁ : At) (w : ℕ) (e : word_of g₁ n₁ x ≡ each_bit Xnor left right w (word_of g n blank)) where
-  pub eq-room : n₁.n + (w - 1) ≤ n.n + eq_cost left right w
-  eq-room = omega (arith, each-most Xnor left right (word_of g n blank) g₁ x n₁ w e)
+module _ (left right : List ℕ) (t t₁ : GateList) (x : List ℕ) (w : ℕ) (e : word_of t₁ x ≡ each_bit Xnor left right w (word_of t blank)) where
+  pub eq-room : t₁.n + (w - 1) ≤ t.n + eq_cost left right w
+  eq-room = omega (arith, each-most Xnor left right (word_of t blank) t₁ x w e)
 
-  pub eq-path : (g₂ : List ℕ) (n₂ : At) (b₂ : ℕ) → made_of g₂ n₂ b₂ ≡ join_all And w x (net_of g₁ n₁) → made_of g₂ n₂ b₂ ≡ eq_words w left right (net_of g n)
+  pub eq-path : (t₂ : GateList) (b₂ : ℕ) → made_of t₂ b₂ ≡ join_all And w x (net_of t₁) → made_of t₂ b₂ ≡ eq_words w left right (net_of t)
   unfolding eq_words
-  eq-path g₂ n₂ b₂ q = q ∙ ap {B = MadeBit} (λ (r : Word). join_all And w r.out r.net) e
+  eq-path t₂ b₂ q = q ∙ ap {B = MadeBit} (λ (r : Word). join_all And w r.out r.net) e
 
 -- the two sides widened
 module _ (left right wl wr : List ℕ) (w : ℕ) (small : w ≤ 64) (p : wl ≡ put_bits 0 left w blank) (q : wr ≡ put_bits 0 right w blank) where
@@ -223,23 +161,23 @@ module _ (left right wl wr : List ℕ) (w : ℕ) (small : w ≤ 64) (p : wl ≡ 
   ult-long = (ap length p ∙ (extend-law 0 w left (omega arith)).long, ap length q ∙ (extend-law 0 w right (omega arith)).long)
 
 -- a row, and the chain that adds it
-module _ (w : ℕ) (left right g g₁ row out : List ℕ) (n n₁ : At) (i : ℕ) (e : word_of g₁ n₁ row ≡ row_of left (get_or right i 0) (w - i) (net_of g n)) where
-  pub mul-room : n₁.n + chain_cost i out row (w - i) ≤ n.n + 4 * (w - i)
+module _ (w : ℕ) (left right : List ℕ) (t t₁ : GateList) (row out : List ℕ) (i : ℕ) (e : word_of t₁ row ≡ row_of left (get_or right i 0) (w - i) (net_of t)) where
+  pub mul-room : t₁.n + chain_cost i out row (w - i) ≤ t.n + 4 * (w - i)
   mul-room =
-      omega (arith, each-most (AndWith (get_or right i 0)) left left (word_of g n blank) g₁ row n₁ (w - i) e, row-cost left (get_or right i 0) (w - i), chain-three i out row (w - i))
+      omega (arith, each-most (AndWith (get_or right i 0)) left left (word_of t blank) t₁ row (w - i) e, row-cost left (get_or right i 0) (w - i), chain-three i out row (w - i))
 
-  pub mul-path : (g₂ out₂ : List ℕ) (n₂ : At) (c₂ : ℕ) → chain_of g₂ n₂ c₂ out₂ ≡ add_onto i row (w - i) (chain_of g₁ n₁ 0 out)
-      → word_of g₂ n₂ out₂ ≡ mul_step w left right i (word_of g n out)
+  pub mul-path : (t₂ : GateList) (out₂ : List ℕ) (c₂ : ℕ) → chain_of t₂ c₂ out₂ ≡ add_onto i row (w - i) (chain_of t₁ 0 out)
+      → word_of t₂ out₂ ≡ mul_step w left right i (word_of t out)
   unfolding mul_step
-  mul-path g₂ out₂ n₂ c₂ q =
+  mul-path t₂ out₂ c₂ q =
       ap {B = Word} (λ (c : Chain). record { net = c.net; out = c.out })
       (q ∙ ap {B = Chain} (λ (r : Word). add_onto i r.out (w - i) (record { net = r.net; carry = 0; out = out })) e)
 
 -- the rows onto a sum that is known false
 module _ (w : ℕ) (left right : List ℕ) (s : Word) (out₀ : List ℕ) (small : w ≤ 64) (fits : w ≤ length s.out) (p : out₀ ≡ put_digits 0 w s.out) where
-  pub mul_most : (g out : List ℕ) (n : At) (i : ℕ) → i < w → word_of g n out ≡ iter i (mul_step w left right) (record { net = s.net; out = out₀ })
-      → n.n + 4 * (w - i) ≤ s.net.n + mul_cost w
-  mul_most g out n i l e = omega (arith, ap (λ (x : Word). x.net.n) (rw p at e), rows-room w left right s (omega arith) fits i l)
+  pub mul_most : (t : GateList) (out : List ℕ) (i : ℕ) → i < w → word_of t out ≡ iter i (mul_step w left right) (record { net = s.net; out = out₀ })
+      → t.n + 4 * (w - i) ≤ s.net.n + mul_cost w
+  mul_most t out i l e = omega (arith, ap (λ (x : Word). x.net.n) (rw p at e), rows-room w left right s (omega arith) fits i l)
 
   pub mul-words-path : (x : Word) → x ≡ iter w (mul_step w left right) (record { net = s.net; out = out₀ }) → x ≡ mul_words w left right s
   mul-words-path x e = rw p at e
@@ -270,8 +208,8 @@ module _ (w j : ℕ) (small : w ≤ 64) (lt : j < powers_below w) where
 
 -- the stages: room for one more
 module _ (to : Direction) (w : ℕ) (amount : List ℕ) (s : Word) (small : w ≤ 64) (fits : w ≤ length s.out) where
-  pub stages-room : (g out : List ℕ) (n : At) (i k : ℕ) → i < k → k ≤ powers_below w → word_of g n out ≡ iter i (stage to w amount) s → n.n + 3 * w ≤ s.net.n + 3 * w * k
-  stages-room g out n i k l h e =
+  pub stages-room : (t : GateList) (out : List ℕ) (i k : ℕ) → i < k → k ≤ powers_below w → word_of t out ≡ iter i (stage to w amount) s → t.n + 3 * w ≤ s.net.n + 3 * w * k
+  stages-room t out i k l h e =
       omega (arith, ap (λ (x : Word). x.net.n) e, stages-most to w amount small s i (omega arith) fits, mul-le-mul_left {m = suc i} {n = k} (3 * w) l)
 
 pub stages-fit : (w k : ℕ) → 1 ≤ w → k ≡ powers_below w → (k ≤ powers_below w) × (3 * w * k ≤ shift_cost w)
@@ -279,28 +217,28 @@ stages-fit w k big e = let c : 3 * w * k ≡ 3 * w * powers_below w = ap (λ (i 
 
 -- the shift: k stages over a copy of the word, the remaining amount bits joined, the clearing
 module _ (to : Direction) (w k : ℕ) (bits amount : List ℕ) (s : Word) (out₀ : List ℕ) (big : 1 ≤ w) (small : w ≤ 64) (fits : w ≤ length s.out) (e : k ≡ powers_below w)
-    (p : out₀ ≡ put_bits 0 bits w s.out) (g₁ out₁ : List ℕ) (n₁ : At) (q : word_of g₁ n₁ out₁ ≡ iter k (stage to w amount) (record { net = s.net; out = out₀ })) where
-  shift-most : n₁.n + (w - k - 1) + w ≤ s.net.n + shift_cost w
+    (p : out₀ ≡ put_bits 0 bits w s.out) (t₁ : GateList) (out₁ : List ℕ) (q : word_of t₁ out₁ ≡ iter k (stage to w amount) (record { net = s.net; out = out₀ })) where
+  shift-most : t₁.n + (w - k - 1) + w ≤ s.net.n + shift_cost w
   shift-most =
       let h : w ≤ length out₀ = rw p (omega (arith, (put-law 0 bits s.out w (omega arith)).long)) in
       let c : 3 * w * k ≡ 3 * w * powers_below w = ap (λ (i : ℕ). 3 * w * i) e in
       omega (arith, ap (λ (x : Word). x.net.n) q, stages-most to w amount small (record { net = s.net; out = out₀ }) k (omega arith) h, powers-less w big)
 
-  pub join-room : n₁.n + (w - k - 1) ≤ s.net.n + shift_cost w
+  pub join-room : t₁.n + (w - k - 1) ≤ s.net.n + shift_cost w
   join-room = omega (arith, shift-most)
 
-  module _ (g₂ : List ℕ) (n₂ : At) (b : ℕ) (o : made_of g₂ n₂ b ≡ join_all Or (w - k) (take (w - k) (drop k amount)) (net_of g₁ n₁)) where
-    pub clear_room : n₂.n + each_cost (Clear b) bits out₁ w ≤ s.net.n + shift_cost w
+  module _ (t₂ : GateList) (b : ℕ) (o : made_of t₂ b ≡ join_all Or (w - k) (take (w - k) (drop k amount)) (net_of t₁)) where
+    pub clear_room : t₂.n + each_cost (Clear b) bits out₁ w ≤ s.net.n + shift_cost w
     clear_room =
         omega (
           arith,
           shift-most,
           clear-cost b bits out₁ w,
           ap (λ (m : MadeBit). m.net.n) o,
-          (joins-ext Or (take (w - k) (drop k amount)) (net_of g₁ n₁) (get_or (take (w - k) (drop k amount)) 0 0) (w - k - 1) joins-or).grows.upto,
+          (joins-ext Or (take (w - k) (drop k amount)) (net_of t₁) (get_or (take (w - k) (drop k amount)) 0 0) (w - k - 1) joins-or).grows.upto,
         )
 
-    pub shift-path : (x : Word) → x ≡ each_bit (Clear b) bits out₁ w (word_of g₂ n₂ out₁) → x ≡ shift_words to w bits amount s
+    pub shift-path : (x : Word) → x ≡ each_bit (Clear b) bits out₁ w (word_of t₂ out₁) → x ≡ shift_words to w bits amount s
     unfolding shift_words
     shift-path x r =
         r ∙ (ap (λ (m : MadeBit). each_bit (Clear m.bit) bits out₁ w (record { net = m.net; out = out₁ })) o ∙ (ap (after k) q ∙ rw (p, e)))

@@ -3,7 +3,7 @@ use Rattle.std.specs.Prelude.{◌≡◌, List, ℕ, ◌+◌, ◌*◌, ◌^◌, �
 use Rattle.loops.specs.Loop.{iter, sum, bit}
 use Rattle.netlist.specs.Record.{Room}
 use Rattle.netlist.specs.Net.{Net, Assign, Obeys}
-use Rattle.gates.specs.declared.made.At.{At}
+use Rattle.gates.specs.declared.list.GateList.{GateList}
 use Rattle.gates.specs.Made.{MadeSum, net_of}
 use Rattle.gates.specs.Adder.{adder_bit, adder_cost}
 use Rattle.gates.specs.Law.{Ext, Formed}
@@ -16,8 +16,8 @@ pub record Chain : Type 0 where
   pub carry : ℕ
   pub out : List ℕ
 
-abbrev pub chain_of : List ℕ → At → ℕ → List ℕ → Chain
-chain_of g a c out = record { net = net_of g a; carry = c; out = out }
+abbrev pub chain_of : GateList → ℕ → List ℕ → Chain
+chain_of l c out = record { net = net_of l; carry = c; out = out }
 
 -- bit j of the right word added to the sum's bit at from + j
 unfoldable pub add_step : ℕ → List ℕ → ℕ → Chain → Chain

@@ -4,7 +4,7 @@ use Rattle.loops.specs.Loop.{pick, iter, sum}
 use Rattle.netlist.specs.Record.{Room}
 use Rattle.netlist.specs.Kind.{xor}
 use Rattle.netlist.specs.Net.{Net, Assign, Obeys}
-use Rattle.gates.specs.declared.made.At.{At}
+use Rattle.gates.specs.declared.list.GateList.{GateList}
 use Rattle.gates.specs.Made.{MadeBit, net_of}
 use Rattle.gates.specs.Fold.{not_bit, and_bit, or_bit, xnor_bit, not_cost, xnor_cost}
 use Rattle.gates.specs.Choice.{mux_bit}
@@ -58,8 +58,8 @@ pub record Word : Type 0 where
   pub net : Net
   pub out : List ℕ
 
-abbrev pub word_of : List ℕ → At → List ℕ → Word
-word_of g a out = record { net = net_of g a; out = out }
+abbrev pub word_of : GateList → List ℕ → Word
+word_of l out = record { net = net_of l; out = out }
 
 -- a bit that was made, put at place i
 abbrev pub placed : MadeBit → ℕ → List ℕ → Word

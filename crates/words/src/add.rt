@@ -1,81 +1,48 @@
 // The adder chain.
-ghost use Rattle.std.specs.Prelude.{◌≡◌, ℕ, ◌+◌, ◌≤◌, ◌<◌, length, get_or};
-ghost use Rattle.gates.specs.Made.{net_of, Fits};
-ghost use Rattle.gates.specs.Adder.{adder_cost};
-ghost use Rattle.words.specs.Add.{chain_of, add_step, add_onto, chain_cost, add_cost, add_words};
+ghost use Rattle.std.specs.Prelude.{◌≡◌, ℕ, ◌+◌, ◌≤◌, ◌<◌, length};
+ghost use Rattle.gates.specs.Made.{Fits, SameList};
+ghost use Rattle.words.specs.Add.{chain_of, add_onto, chain_cost, add_cost, add_words};
 
 use crate::each;
-use gates::adder;
-use gates::made::At;
+use gates::list::GateList;
 
-// A carry, and where the next gate goes.
-#[derive(Clone, Copy)]
-pub struct Carry {
-    pub carry: u32,
-    pub at: At,
-}
-
-// One turn of add_onto.
-fn add_step(
-    gates: &mut [u32],
-    at: At,
-    sum: &mut [u32],
-    from: usize,
-    right: &[u32],
-    carry: u32,
-    j: usize,
-) -> Carry
-    requires fits { Fits gates.old at (adder_cost (get_or sum.old (from + j) 0) (get_or right.now j 0)) }
-    requires j_in_bounds { (j < length right.now) × (from + j < length sum.old) }
-    ensures { chain_of gates.new result.at result.carry sum.new ≡ add_step from right.now j (chain_of gates.old at carry sum.old) }
-{
-    let place = from + j;
-    let s = adder::adder_bit(gates, at, sum[place], right[j], carry);
-    sum[place] = s.sum;
-    let end = s.at;
-    Carry {
-        carry: s.carry,
-        at: end,
-    }
-}
-
-// The first w bits of the right word added onto the sum, from a place on.
+// The first w bits of the right word added onto the sum, from a place on; answers the carry.
 pub fn add_onto(
-    gates: &mut [u32],
-    at: At,
+    list: &mut GateList,
     sum: &mut [u32],
     from: usize,
     right: &[u32],
     w: usize,
     carry: u32,
-) -> Carry
-    requires fits { Fits gates.old at (chain_cost from sum.old right.now w) }
+) -> u32
+    requires fits { Fits list.old (chain_cost from sum.old right.now w) }
     requires w_in_bounds { (w ≤ length right.now) × (from + w ≤ length sum.old) }
-    ensures { chain_of gates.new result.at result.carry sum.new ≡ add_onto from right.now w (chain_of gates.old at carry sum.old) }
+    ensures same { SameList list.old list.new }
+    ensures made { chain_of list.new result sum.new ≡ add_onto from right.now w (chain_of list.old carry sum.old) }
 {
-    let mut c = Carry { carry, at };
-    let mut j = 0;
-    while j < w {
-        c = add_step(gates, c.at, sum, from, right, c.carry, j);
-        j += 1;
+    let mut c = carry;
+    for j in 0..w {
+        let s = list.adder_bit(sum[from + j], right[j], c);
+        sum[from + j] = s.sum;
+        c = s.carry;
     }
     c
 }
 
-// The sum of two words of w bits, with a carry in.
+// The sum of two words of w bits, with a carry in; answers the carry.
 pub fn add_words(
-    gates: &mut [u32],
-    at: At,
+    list: &mut GateList,
     left: &[u32],
     right: &[u32],
     w: usize,
     carry: u32,
     out: &mut [u32],
-) -> Carry
-    requires fits { Fits gates.old at (add_cost left.now right.now w) }
+) -> u32
+    requires fits { Fits list.old (add_cost left.now right.now w) }
     requires w_in_bounds { (w ≤ length left.now) × (w ≤ length right.now) × (w ≤ length out.old) }
-    ensures { chain_of gates.new result.at result.carry out.new ≡ add_words w left.now right.now (chain_of gates.old at carry out.old) }
+    ensures same { SameList list.old list.new }
+    ensures made { chain_of list.new result out.new ≡ add_words w left.now right.now (chain_of list.old carry out.old) }
 {
     each::put_bits(out, 0, left, w);
-    add_onto(gates, at, out, 0, right, w, carry)
+    add_onto(list, out, 0, right, w, carry)
 }

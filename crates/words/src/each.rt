@@ -1,12 +1,12 @@
 // Words that are made bit by bit.
 ghost use Rattle.std.specs.Prelude.{◌≡◌, ℕ, ◌+◌, ◌≤◌, ◌<◌, length};
-ghost use Rattle.gates.specs.Made.{net_of, made_of, Fits};
-ghost use Rattle.words.specs.Each.{bitwise, bit_cost, each_cost, word_of, placed, each_bit, put_bits};
+ghost use Rattle.gates.specs.Made.{net_of, made_of, Fits, SameList};
+ghost use Rattle.words.specs.Each.{bitwise, bit_cost, each_cost, word_of, each_bit, put_bits};
 
-use gates::made::{At, Made};
-use gates::{choice, fold};
+use gates::list::GateList;
 
-// What is made of bit i of a left and a right word; a bit that is the same at each place comes along.
+// What is made of bit i of a left and a right word; a bit that is the same at each place comes along. An enum, and not a closure or a type for
+// each: the seven are the cases of the laws (specs/Each.antt), and one match says them in a quarter of the lines that seven impls take.
 #[derive(Clone, Copy)]
 pub enum Bitwise {
     Not,
@@ -18,84 +18,52 @@ pub enum Bitwise {
     Clear(u32),
 }
 
-pub fn bit_of(gates: &mut [u32], at: At, op: Bitwise, a: u32, b: u32) -> Made
-    requires { Fits gates.old at (bit_cost op a b) }
-    ensures { made_of gates.new result.at result.bit ≡ bitwise op (net_of gates.old at) a b }
+#[tactic(auto, unfolding(crate::specs::Each::bitwise, crate::specs::Each::bit_cost))]
+pub fn bit_of(list: &mut GateList, op: Bitwise, a: u32, b: u32) -> u32
+    requires { Fits list.old (bit_cost op a b) }
+    ensures same { SameList list.old list.new }
+    ensures made { made_of list.new result ≡ bitwise op (net_of list.old) a b }
 {
     match op {
-        Bitwise::Not => fold::not_bit(gates, at, a),
-        Bitwise::And => fold::and_bit(gates, at, a, b),
-        Bitwise::Or => fold::or_bit(gates, at, a, b),
-        Bitwise::Xnor => fold::xnor_bit(gates, at, a, b),
-        Bitwise::AndWith(c) => fold::and_bit(gates, at, a, c),
-        Bitwise::Choose(c) => choice::mux_bit(gates, at, c, a, b),
-        Bitwise::Clear(c) => choice::clear_bit(gates, at, c, b),
+        Bitwise::Not => list.not_bit(a),
+        Bitwise::And => list.and_bit(a, b),
+        Bitwise::Or => list.or_bit(a, b),
+        Bitwise::Xnor => list.xnor_bit(a, b),
+        Bitwise::AndWith(c) => list.and_bit(a, c),
+        Bitwise::Choose(c) => list.mux_bit(c, a, b),
+        Bitwise::Clear(c) => list.clear_bit(c, b),
     }
-}
-
-// One turn of each_bit and each_onto: the bit that is made of a and b, put at place i.
-fn each_step(
-    gates: &mut [u32],
-    at: At,
-    op: Bitwise,
-    a: u32,
-    b: u32,
-    out: &mut [u32],
-    i: usize,
-) -> At
-    requires fits { Fits gates.old at (bit_cost op a b) }
-    requires i_in_bounds { i < length out.old }
-    ensures { word_of gates.new result out.new ≡ placed (bitwise op (net_of gates.old at) a b) i out.old }
-{
-    let m = bit_of(gates, at, op, a, b);
-    out[i] = m.bit;
-    m.at
 }
 
 // The word of w bits that an operation makes of the left and the right word.
 pub fn each_bit(
-    gates: &mut [u32],
-    at: At,
+    list: &mut GateList,
     op: Bitwise,
     left: &[u32],
     right: &[u32],
     w: usize,
     out: &mut [u32],
-) -> At
-    requires fits { Fits gates.old at (each_cost op left.now right.now w) }
+)
+    requires fits { Fits list.old (each_cost op left.now right.now w) }
     requires w_in_bounds { (w ≤ length left.now) × (w ≤ length right.now) × (w ≤ length out.old) }
-    ensures { word_of gates.new result out.new ≡ each_bit op left.now right.now w (word_of gates.old at out.old) }
+    ensures same { SameList list.old list.new }
+    ensures made { word_of list.new out.new ≡ each_bit op left.now right.now w (word_of list.old out.old) }
 {
-    let mut next = at;
-    let mut i = 0;
-    while i < w {
-        next = each_step(gates, next, op, left[i], right[i], out, i);
-        i += 1;
+    for i in 0..w {
+        out[i] = bit_of(list, op, left[i], right[i]);
     }
-    next
 }
 
 // The same where the right word is replaced by the word that is made.
-pub fn each_onto(
-    gates: &mut [u32],
-    at: At,
-    op: Bitwise,
-    left: &[u32],
-    w: usize,
-    out: &mut [u32],
-) -> At
-    requires fits { Fits gates.old at (each_cost op left.now out.old w) }
+pub fn each_onto(list: &mut GateList, op: Bitwise, left: &[u32], w: usize, out: &mut [u32])
+    requires fits { Fits list.old (each_cost op left.now out.old w) }
     requires w_in_bounds { (w ≤ length left.now) × (w ≤ length out.old) }
-    ensures { word_of gates.new result out.new ≡ each_bit op left.now out.old w (word_of gates.old at out.old) }
+    ensures same { SameList list.old list.new }
+    ensures made { word_of list.new out.new ≡ each_bit op left.now out.old w (word_of list.old out.old) }
 {
-    let mut next = at;
-    let mut i = 0;
-    while i < w {
-        let old = out[i];
-        next = each_step(gates, next, op, left[i], old, out, i);
-        i += 1;
+    for i in 0..w {
+        out[i] = bit_of(list, op, left[i], out[i]);
     }
-    next
 }
 
 // The first w bits of a word put into a list from a place on.
@@ -103,9 +71,5 @@ pub fn put_bits(map: &mut [u32], from: usize, bits: &[u32], w: usize)
     requires { (from + w ≤ length map.old) × (w ≤ length bits.now) }
     ensures { map.new ≡ put_bits from bits.now w map.old }
 {
-    let mut i = 0;
-    while i < w {
-        map[from + i] = bits[i];
-        i += 1;
-    }
+    map[from..from + w].copy_from_slice(&bits[..w]);
 }

@@ -1,6 +1,6 @@
 use borrow.Author.Rules.{rules}
 use native.Mathlib.Omega.{arith}
-use Rattle.loops.proofs.Loop.{loop-none, loop-more, loop-done}
+use Rattle.loops.proofs.Loop.{loop-none, loop-more}
 use Rattle.words.specs.Each.{word_of}
 use Rattle.words.proofs.Paths.{mul_most, mul-words-path}
 use Rattle.words.proofs.mul.mul_words.Goals as goal
@@ -8,11 +8,16 @@ use Rattle.words.proofs.mul.mul_words.Goals as goal
 pub loop-i-init : goal.loop-i-init
 loop-i-init c = search (rules, loop-none)
 
-pub mul_step-next-requires : goal.mul_step-next-requires
-mul_step-next-requires c = omega (arith, mul_most c.args.w c.args.left.now c.args.right.now (word_of c.args.gates.now c.args.at c.args.out.now) _ c.requires.w_bound.0 c.requires.w_bound.3 c.put_digits.ensures _ _ c.loop-i.next c.loop-i.i c.loop-i-test.true c.loop-i.invariant.1)
+pub mul_step-requires : goal.mul_step-requires
+mul_step-requires c =
+    omega (
+      arith,
+      mul_most c.args.w c.args.left.now c.args.right.now (word_of c.args.list.now c.args.out.now) _ c.requires.w_bound.0 c.requires.w_bound.3 c.put_digits.ensures
+          c.loop-i.list _ c.loop-i.i c.loop-i-test.true c.loop-i.invariant.made,
+    )
 
 pub loop-i-preserved : goal.loop-i-preserved
-loop-i-preserved c = (omega arith, search (rules, loop-more), search rules, search rules)
+loop-i-preserved c = search (rules, loop-more)
 
-pub returns : goal.returns
-returns c = search (rules, mul-words-path, loop-done)
+pub returns-clause-made : goal.returns-clause-made
+returns-clause-made c = search (rules, mul-words-path)

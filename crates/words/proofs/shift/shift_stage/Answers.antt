@@ -22,6 +22,7 @@ move_bits-requires c = omega (arith, stage-places c.args.w c.args.j c.requires.j
 pub each_onto-requires : goal.each_onto-requires
 each_onto-requires c = omega (arith, choose-cost (get_or c.args.amount.now c.args.j 0) c.move_bits.new.out c.args.out.now c.args.w)
 
-pub returns : goal.returns
+pub returns-clause-made : goal.returns-clause-made
 unfolding filled
-returns c = stage-path c.args.w c.args.j c.requires.j_bound.2 c.requires.j_bound.0 c.args.to c.args.amount.now _ (word_of c.args.gates.now c.args.at c.args.out.now) _ c.move_bits.ensures c.each_onto.ensures
+returns-clause-made c =
+    stage-path c.args.w c.args.j c.requires.j_bound.2 c.requires.j_bound.0 c.args.to c.args.amount.now _ (word_of c.args.list.now c.args.out.now) _ c.move_bits.ensures c.each_onto.ensures.made
