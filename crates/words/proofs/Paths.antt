@@ -1,5 +1,5 @@
 -- What the code's calls come to, path by path, over the definitions alone: a proof of the code cites each by its bare name in `search`.
-use mathlib.Core.Path.{◌≡◌, refl, ap, ◌∙◌}
+use mathlib.Core.Path.{◌≡◌, ap, ◌∙◌}
 use mathlib.Core.List.{List}
 use Prim.Native.Nat.{ℕ, suc, ◌-◌, ◌+◌, ◌*◌, ◌^◌, ◌%◌, ◌≤◌, ◌<◌}
 use native.Mathlib.Omega.{arith}
@@ -16,9 +16,8 @@ use Rattle.digits.proofs.Numbers.{powers-each, powers-less}
 use Rattle.words.specs.declared.each.Bitwise.{Bitwise}
 use Rattle.words.specs.declared.each.Bitwise.TheVariants.{Not, And, Or, Xnor, AndWith, Choose, Clear}
 use Rattle.words.specs.declared.shift.Direction.{Direction}
-use Rattle.words.specs.declared.shift.Direction.TheVariants.{Left, Right}
 use Rattle.words.specs.Num.{blank}
-use Rattle.words.specs.Each.{bitwise, bit_cost, Word, word_of, placed, each_step, each_bit, each_cost, copy_step, put_bits}
+use Rattle.words.specs.Each.{bitwise, bit_cost, Word, word_of, placed, each_step, each_bit, each_cost, put_bits}
 use Rattle.words.specs.Add.{Chain, chain_of, add_step, add_onto, chain_cost, add_cost, add_words}
 use Rattle.words.specs.Sub.{sub_words, sub_cost, ult_words}
 use Rattle.words.specs.Extend.{extended}
@@ -27,7 +26,7 @@ use Rattle.words.specs.Eq.{eq_words, eq_cost}
 use Rattle.words.specs.Mul.{row_of, mul_step, mul_words, mul_cost}
 use Rattle.words.specs.Shift.{moved, stage, shift_words, shift_cost}
 use Rattle.words.proofs.Sums.{sum-within}
-use Rattle.words.proofs.EachLaws.{each-ext, each_long, each-rest, put-law}
+use Rattle.words.proofs.EachLaws.{each-ext, each-rest, put-law}
 use Rattle.words.proofs.AddLaws.{onto-law, copied-cost, chain-three}
 use Rattle.words.proofs.SubLaws.{nots-less, wide-cost}
 use Rattle.words.proofs.ExtendLaws.{extend-law}
@@ -46,12 +45,6 @@ module _ (op : Bitwise) (left right : List ℕ) (s : Word) (t : GateList) (out :
   pub each-most : t.n ≤ s.net.n + each_cost op left right i
   each-most = omega (arith, ap (λ (x : Word). x.net.n) e, (each-ext op left right s i).grows.upto)
 
-  pub each-gates : length t.records.now ≡ length s.net.gates
-  each-gates = ap (λ (x : Word). length x.net.gates) e ∙ (each-ext op left right s i).grows.long
-
-  pub each-out : length out ≡ length s.out
-  each-out = ap (λ (x : Word). length x.out) e ∙ each_long op left right s i
-
   -- room for bit i, where there is room for w of them
   pub each-room : (w : ℕ) → i < w → t.n + bit_cost op (get_or left i 0) (get_or right i 0) ≤ s.net.n + each_cost op left right w
   each-room w l = omega (arith, each-most, sum-within (λ j. bit_cost op (get_or left j 0) (get_or right j 0)) i w l)
@@ -67,10 +60,6 @@ module _ (op : Bitwise) (left : List ℕ) (s : Word) (t : GateList) (out : List 
   pub each-onto-turn : (t' : GateList) (b : ℕ) → made_of t' b ≡ bitwise op (net_of t) (get_or left i 0) (get_or out i 0)
       → word_of t' (set out i b) ≡ each_step op left s.out i (word_of t out)
   each-onto-turn t' b q = each-turn op left s.out t t' out b i (rw same_bit at q)
-
-pub copy-path : (from : ℕ) (bits map : List ℕ) (i : ℕ) → set map (from + i) (get_or bits i 0) ≡ copy_step from bits i map
-unfolding copy_step
-copy-path from bits map i = refl
 
 -- a chain of adders
 pub add-path : (from : ℕ) (right out : List ℕ) (t t' : GateList) (c j : ℕ) (s : Sum) → sum_of t' s ≡ adder_bit (net_of t) (get_or out (from + j) 0) (get_or right j 0) c
@@ -90,9 +79,6 @@ module _ (from : ℕ) (right : List ℕ) (s : Chain) (t : GateList) (out : List 
       ap (λ (x : Chain). get_or x.out (from + j) 0) e ∙ (onto-law from right s j (omega arith)).above (from + j) (omega arith) in
       let k : adder_cost (get_or out (from + j) 0) (get_or right j 0) ≡ adder_cost (get_or s.out (from + j) 0) (get_or right j 0) = ap (λ (b : ℕ). adder_cost b (get_or right j 0)) q in
       omega (arith, onto-most (omega arith), sum-within (λ i. adder_cost (get_or s.out (from + i) 0) (get_or right i 0)) j w l)
-
-pub put-long : (from : ℕ) (bits map out : List ℕ) (w : ℕ) → from + w ≤ length map → out ≡ put_bits from bits w map → length out ≡ length map
-put-long from bits map out w h e = rw e (put-law from bits map w h).long
 
 -- the left word copied, and the right one added onto it
 module _ (left right : List ℕ) (t : GateList) (out out₁ : List ℕ) (w : ℕ) (p : out₁ ≡ put_bits 0 left w out) where
@@ -181,16 +167,6 @@ module _ (w : ℕ) (left right : List ℕ) (s : Word) (out₀ : List ℕ) (small
 
   pub mul-words-path : (x : Word) → x ≡ iter w (mul_step w left right) (record { net = s.net; out = out₀ }) → x ≡ mul_words w left right s
   mul-words-path x e = rw p at e
-
--- a word moved
-module _ (to : Direction) (w k : ℕ) (bits out out₁ : List ℕ) where
-  pub move-left : to ≡ Left → out₁ ≡ put_bits k bits (w - k) out → out₁ ≡ moved to w k bits out
-  unfolding moved
-  move-left h q = rw h q
-
-  pub move-right : to ≡ Right → out₁ ≡ put_bits 0 (take (w - k) (drop k bits)) (w - k) out → out₁ ≡ moved to w k bits out
-  unfolding moved
-  move-right h q = rw h q
 
 -- a stage: the places by a shift of one, and the choice
 module _ (w j : ℕ) (small : w ≤ 64) (lt : j < powers_below w) where
