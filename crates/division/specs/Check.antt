@@ -3,7 +3,7 @@
 use Rattle.std.specs.Prelude.{◌≡◌, List, ◌↔◌, ℕ, ◌+◌, ◌*◌, ◌-◌, ◌/◌, ◌<◌}
 use Rattle.netlist.specs.Record.{Room}
 use Rattle.netlist.specs.Net.{Net, Assign, Obeys}
-use Rattle.gates.specs.declared.made.At.{At}
+use Rattle.division.specs.declared.lists.Lists.{Lists}
 use Rattle.gates.specs.Made.{MadeBit, net_of}
 use Rattle.gates.specs.Law.{Ext, Formed}
 use Rattle.digits.specs.Digits.{Below}
@@ -13,7 +13,7 @@ use Rattle.words.specs.Each.{Word, each_bit}
 use Rattle.words.specs.Add.{Chain, add_onto}
 use Rattle.words.specs.Sub.{ult_words}
 use Rattle.words.specs.Mul.{mul_cost}
-use Rattle.division.specs.Constraint.{Cons, cons_of, ConRoom, constrain, constrain_each, Holds, Within, More}
+use Rattle.division.specs.Constraint.{Cons, cons_in, ConRoom, constrain, constrain_each, Holds, Within, More}
 use Rattle.division.specs.Rows.{Checked, div_rows}
 
 -- a net and the constraints on it
@@ -21,8 +21,8 @@ pub record Book : Type 0 where
   pub net : Net
   pub cons : Cons
 
-abbrev pub book_of : List ℕ → At → List ℕ → ℕ → Book
-book_of g a l m = record { net = net_of g a; cons = cons_of l m }
+abbrev pub book_of : Lists → Book
+book_of l = record { net = net_of l.gates; cons = cons_in l.cons }
 
 -- quotient times divisor, and the remainder added
 unfoldable pub sum_words : ℕ → List ℕ → List ℕ → List ℕ → Book → Checked

@@ -1,5 +1,6 @@
 -- The list of constraints, gate and value, two numbers each. The layout is known to this file, proofs/ConstraintLaws.antt and src/constraint.rt.
 use Rattle.std.specs.Prelude.{◌≡◌, List, ◌↔◌, ℕ, ◌+◌, ◌*◌, ◌≤◌, ◌<◌, set, get_or, length}
+use Rattle.division.specs.declared.constraint.ConstraintList.{ConstraintList}
 use Rattle.loops.specs.Loop.{iter, bit}
 use Rattle.netlist.specs.Net.{Assign}
 
@@ -24,6 +25,18 @@ pub record Cons : Type 0 where
 
 abbrev pub cons_of : List ℕ → ℕ → Cons
 cons_of l m = record { list = l; m = m }
+
+-- what the code has, as these definitions have it
+abbrev pub cons_in : ConstraintList → Cons
+cons_in l = cons_of l.pairs.now l.m
+
+-- k more constraints fit the buffer
+abbrev pub ConFits : ConstraintList → ℕ → Type 0
+ConFits l k = con_used (l.m + k) ≤ length l.pairs.now
+
+-- the list is made in the same lent buffer, which keeps its length
+abbrev pub SameCons : ConstraintList → ConstraintList → Type 0
+SameCons old new = (new.pairs.ghost_name ≡ old.pairs.ghost_name) × (length new.pairs.now ≡ length old.pairs.now)
 
 abbrev pub ConRoom : Cons → Type 0
 ConRoom c = con_used c.m ≤ length c.list

@@ -5,7 +5,7 @@ use Rattle.loops.specs.Loop.{pick}
 use Rattle.netlist.specs.Record.{gate_at, Room}
 use Rattle.netlist.specs.Kind.{free}
 use Rattle.netlist.specs.Net.{Assign, Obeys}
-use Rattle.gates.specs.declared.made.At.{At}
+use Rattle.division.specs.declared.lists.Lists.{Lists}
 use Rattle.gates.specs.Made.{MadeBit, gate_quotient, gate_remainder}
 use Rattle.gates.specs.Law.{Grows, Formed}
 use Rattle.digits.specs.Digits.{Below, Parts, all_known, number}
@@ -24,8 +24,8 @@ pub record Divided : Type 0 where
   pub quot : List ℕ
   pub rem : List ℕ
 
-abbrev pub divided_of : List ℕ → At → List ℕ → ℕ → List ℕ → List ℕ → Divided
-divided_of g a l m q r = record { book = book_of g a l m; quot = q; rem = r }
+abbrev pub divided_of : Lists → List ℕ → List ℕ → Divided
+divided_of l q r = record { book = book_of l; quot = q; rem = r }
 
 unfoldable pub div_words : ℕ → ℕ → List ℕ → List ℕ → Book → Divided
 div_words w node n d s =

@@ -3,7 +3,7 @@ use Rattle.std.specs.Prelude.{◌≡◌, List, ℕ, ◌+◌, ◌*◌, ◌<◌, g
 use Rattle.loops.specs.Loop.{iter}
 use Rattle.netlist.specs.Record.{gate_at, Room}
 use Rattle.netlist.specs.Net.{Net}
-use Rattle.gates.specs.declared.made.At.{At}
+use Rattle.gates.specs.declared.list.GateList.{GateList}
 use Rattle.gates.specs.Made.{MadeBit, net_of, added, gate_quotient, gate_remainder}
 use Rattle.gates.specs.Law.{Grows, Formed}
 
@@ -12,8 +12,8 @@ pub record Pair : Type 0 where
   pub quot : List ℕ
   pub rem : List ℕ
 
-abbrev pub pair_of : List ℕ → At → List ℕ → List ℕ → Pair
-pair_of g a q r = record { net = net_of g a; quot = q; rem = r }
+abbrev pub pair_of : GateList → List ℕ → List ℕ → Pair
+pair_of l q r = record { net = net_of l; quot = q; rem = r }
 
 unfoldable pub pair_step : ℕ → ℕ → Pair → Pair
 pair_step node i st =

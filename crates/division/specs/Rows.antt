@@ -4,15 +4,15 @@ use Rattle.std.specs.Prelude.{◌≡◌, List, ◌↔◌, ℕ, ◌+◌, ◌*◌,
 use Rattle.loops.specs.Loop.{iter, sum}
 use Rattle.netlist.specs.Record.{Room}
 use Rattle.netlist.specs.Net.{Net, Assign, Obeys}
-use Rattle.gates.specs.declared.made.At.{At}
-use Rattle.gates.specs.Made.{net_of}
+use Rattle.division.specs.declared.lists.Lists.{Lists}
+use Rattle.gates.specs.Made.{net_of, SameList}
 use Rattle.gates.specs.Law.{Ext, Formed}
 use Rattle.digits.specs.Digits.{Below}
 use Rattle.words.specs.Num.{num, blank}
 use Rattle.words.specs.Each.{Word}
 use Rattle.words.specs.Add.{Chain, add_onto}
 use Rattle.words.specs.Mul.{row_of}
-use Rattle.division.specs.Constraint.{Cons, cons_of, ConRoom, constrain, constrain_each, Holds, Within, More}
+use Rattle.division.specs.Constraint.{Cons, cons_in, ConRoom, constrain, constrain_each, Holds, Within, More, SameCons}
 
 -- a word, the net that has its gates, and the constraints
 pub record Checked : Type 0 where
@@ -20,8 +20,11 @@ pub record Checked : Type 0 where
   pub cons : Cons
   pub out : List ℕ
 
-abbrev pub checked_of : List ℕ → At → List ℕ → ℕ → List ℕ → Checked
-checked_of g a l m out = record { net = net_of g a; cons = cons_of l m; out = out }
+abbrev pub checked_of : Lists → List ℕ → Checked
+checked_of l out = record { net = net_of l.gates; cons = cons_in l.cons; out = out }
+
+abbrev pub SameLists : Lists → Lists → Type 0
+SameLists old new = SameList old.gates new.gates × SameCons old.cons new.cons
 
 -- the places from a up to b of a word
 abbrev pub places : ℕ → ℕ → List ℕ → List ℕ

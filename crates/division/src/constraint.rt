@@ -1,15 +1,6 @@
 // The list of constraints, gate and value. Nothing else in the code knows how many numbers a constraint has.
 ghost use Rattle.std.specs.Prelude.{◌≡◌, ◌+◌, ◌*◌, ◌≤◌, ◌<◌, length};
-ghost use Rattle.division.specs.Constraint.{con_used, con_gate, con_value, cons_of, constrain, constrain_each};
-
-use gates::made::At;
-
-// Where the next gate goes, and the next constraint.
-#[derive(Clone, Copy)]
-pub struct Counts {
-    pub at: At,
-    pub m: usize,
-}
+ghost use Rattle.division.specs.Constraint.{con_used, con_gate, con_value, cons_in, constrain, constrain_each, ConFits, SameCons};
 
 // Gate and value of a constraint.
 #[derive(Clone, Copy)]
@@ -19,6 +10,7 @@ pub struct Constraint {
 }
 
 // Constraint j.
+#[tactic(auto, using(crate::proofs::Paths::steps), unfolding(crate::specs::Constraint::con_gate, crate::specs::Constraint::con_value))]
 pub fn constraint_at(cons: &[u32], j: usize) -> Constraint
     requires { con_used (j + 1) ≤ length cons.now }
     ensures { (result.gate ≡ con_gate cons.now j) × (result.value ≡ con_value cons.now j) }
@@ -30,27 +22,36 @@ pub fn constraint_at(cons: &[u32], j: usize) -> Constraint
     }
 }
 
-// One constraint more; gives back how many there are.
-pub fn put_constraint(cons: &mut [u32], m: usize, gate: u32, value: u32) -> usize
-    requires { con_used (m + 1) ≤ length cons.old }
-    ensures { cons_of cons.new result ≡ constrain (cons_of cons.old m) gate value }
-{
-    let place = 2 * m;
-    cons[place] = gate;
-    cons[place + 1] = value;
-    m + 1
+// The list that is being made: a lent buffer, and how many constraints of it are in use.
+#[derive(Drop)]
+pub struct ConstraintList<'a> {
+    pub pairs: &'a mut [u32],
+    pub m: usize,
 }
 
-// The same value for each of the first k bits of a word.
-pub fn constrain_each(cons: &mut [u32], m: usize, bits: &[u32], value: u32, k: usize) -> usize
-    requires { (con_used (m + k) ≤ length cons.old) × (k ≤ length bits.now) }
-    ensures { cons_of cons.new result ≡ constrain_each bits.now value k (cons_of cons.old m) }
-{
-    let mut next = m;
-    let mut j = 0;
-    while j < k {
-        next = put_constraint(cons, next, bits[j], value);
-        j += 1;
+impl ConstraintList<'_> {
+    // One constraint more.
+    #[tactic(auto, using(crate::proofs::Paths::steps), unfolding(crate::specs::Constraint::constrain, crate::specs::Constraint::put_con))]
+    pub fn put(&mut self, gate: u32, value: u32)
+        requires { ConFits self.old 1 }
+        ensures same { SameCons self.old self.new }
+        ensures put { cons_in self.new ≡ constrain (cons_in self.old) gate value }
+    {
+        let place = 2 * self.m;
+        self.pairs[place] = gate;
+        self.pairs[place + 1] = value;
+        self.m += 1;
     }
-    next
+
+    // The same value for each of the first k bits of a word.
+    #[tactic(auto, using(crate::proofs::Paths::steps), unfolding(crate::specs::Constraint::con_step))]
+    pub fn put_each(&mut self, bits: &[u32], value: u32, k: usize)
+        requires { ConFits self.old k × (k ≤ length bits.now) }
+        ensures same { SameCons self.old self.new }
+        ensures put { cons_in self.new ≡ constrain_each bits.now value k (cons_in self.old) }
+    {
+        for j in 0..k {
+            self.put(bits[j], value);
+        }
+    }
 }

@@ -2,119 +2,96 @@
 ghost use Rattle.std.specs.Prelude.{◌≡◌, ◌+◌, ◌≤◌, length};
 ghost use Rattle.gates.specs.Made.{Fits};
 ghost use Rattle.words.specs.Num.{blank};
-ghost use Rattle.division.specs.Constraint.{con_used};
-ghost use Rattle.division.specs.Rows.{checked_of};
+ghost use Rattle.division.specs.Constraint.{ConFits};
+ghost use Rattle.division.specs.Rows.{checked_of, SameLists};
 ghost use Rattle.division.specs.Check.{book_of, con_count};
 ghost use Rattle.division.specs.Divide.{divided_of, div_words, free_word, by_zero, divide_words, div_cost, free_cost, divide_cost};
 
-use crate::constraint::Counts;
-use crate::{check, known, pair, zero};
-use gates::made::At;
+use crate::lists::Lists;
+use crate::{check, pair, zero};
+
+// What is asked: the quotient, or the remainder, of two words of w bits, for a node.
+#[derive(Clone, Copy)]
+pub struct Division<'a> {
+    pub quotient: bool,
+    pub node: u32,
+    pub num: &'a [u32],
+    pub den: &'a [u32],
+    pub w: usize,
+}
 
 // Quotient and remainder as gates, and their constraints.
+#[tactic(auto, using(crate::proofs::Paths::steps), unfolding(crate::specs::Divide::div_words))]
 fn div_words(
-    gates: &mut [u32],
-    at: At,
-    cons: &mut [u32],
-    m: usize,
+    lists: &mut Lists,
     node: u32,
     num: &[u32],
     den: &[u32],
     w: usize,
     quot: &mut [u32],
     rem: &mut [u32],
-) -> Counts
-    requires fits { Fits gates.old at (div_cost w) }
-    requires w_in_bounds { con_used (m + con_count w) ≤ length cons.old }
+)
+    requires fits { Fits lists.old.gates (div_cost w) }
+    requires cons_fit { ConFits lists.old.cons (con_count w) }
     requires w_bound { (w ≤ 64) × (w ≤ length num.now) × (w ≤ length den.now) × (quot.old ≡ blank) × (rem.old ≡ blank) }
-    ensures { divided_of gates.new result.at cons.new result.m quot.new rem.new ≡ div_words w node num.now den.now (book_of gates.old at cons.old m) }
+    ensures same { SameLists lists.old lists.new }
+    ensures made { divided_of lists.new quot.new rem.new ≡ div_words w node num.now den.now (book_of lists.old) }
 {
-    let next = pair::pair_words(gates, at, node, w, quot, rem);
-    check::check_words(gates, next, cons, m, quot, rem, num, den, w)
+    pair::pair_words(&mut lists.gates, node, w, quot, rem);
+    check::check_words(lists, quot, rem, num, den, w);
 }
 
-// By gates: over the divisor with its lowest bit Ored with z, and the choice by z.
-fn divide_free(
-    gates: &mut [u32],
-    at: At,
-    cons: &mut [u32],
-    m: usize,
-    quotient: bool,
-    node: u32,
-    num: &[u32],
-    den: &[u32],
-    z: u32,
-    w: usize,
-    out: &mut [u32],
-) -> Counts
-    requires fits { Fits gates.old at (free_cost w) }
-    requires w_in_bounds { con_used (m + con_count w) ≤ length cons.old }
-    requires le_w { (1 ≤ w) × (w ≤ 64) × (w ≤ length num.now) × (w ≤ length den.now) × (w ≤ length out.old) }
-    ensures { checked_of gates.new result.at cons.new result.m out.new ≡ free_word quotient w node num.now den.now z (checked_of gates.old at cons.old m out.old) }
-{
-    let mut raised = [0u32; 65];
-    let mut quot = [0u32; 65];
-    let mut rem = [0u32; 65];
-    let next = zero::raise(gates, at, den, z, w, &mut raised);
-    let c = div_words(
-        gates, next, cons, m, node, num, &raised, w, &mut quot, &mut rem,
-    );
-    let last = zero::choose(gates, c.at, quotient, z, num, &quot, &rem, w, out);
-    let end = c.m;
-    Counts { at: last, m: end }
-}
-
-// Operands that are not both wholly known.
-fn by_zero(
-    gates: &mut [u32],
-    at: At,
-    cons: &mut [u32],
-    m: usize,
-    quotient: bool,
-    node: u32,
-    num: &[u32],
-    den: &[u32],
-    w: usize,
-    out: &mut [u32],
-) -> Counts
-    requires fits { Fits gates.old at (divide_cost w) }
-    requires w_in_bounds { con_used (m + con_count w) ≤ length cons.old }
-    requires le_w { (1 ≤ w) × (w ≤ 64) × (w ≤ length num.now) × (w ≤ length den.now) × (w ≤ length out.old) }
-    ensures { checked_of gates.new result.at cons.new result.m out.new ≡ by_zero quotient w node num.now den.now (checked_of gates.old at cons.old m out.old) }
-{
-    let z = zero::zero_bit(gates, at, den, w);
-    let bit = z.bit;
-    let next = z.at;
-    if bit == 1 {
-        zero::put_zero(out, quotient, num, w);
-        return Counts { at: next, m };
+impl Division<'_> {
+    // By gates: over the divisor with its lowest bit Ored with z, and the choice by z.
+    #[tactic(auto, using(crate::proofs::Paths::steps), unfolding(crate::specs::Divide::free_word, words::specs::Num::filled))]
+    fn divide_free(&self, lists: &mut Lists, z: u32, out: &mut [u32])
+        requires fits { Fits lists.old.gates (free_cost self.now.w) }
+        requires cons_fit { ConFits lists.old.cons (con_count self.now.w) }
+        requires le_w { (1 ≤ self.now.w) × (self.now.w ≤ 64) × (self.now.w ≤ length self.now.num.now) × (self.now.w ≤ length self.now.den.now) × (self.now.w ≤ length out.old) }
+        ensures same { SameLists lists.old lists.new }
+        ensures made { checked_of lists.new out.new ≡ free_word self.now.quotient self.now.w self.now.node self.now.num.now self.now.den.now z (checked_of lists.old out.old) }
+    {
+        let mut raised = [0u32; 65];
+        let mut quot = [0u32; 65];
+        let mut rem = [0u32; 65];
+        let w = self.w;
+        zero::raise(&mut lists.gates, self.den, z, w, &mut raised);
+        div_words(lists, self.node, self.num, &raised, w, &mut quot, &mut rem);
+        self.choose(&mut lists.gates, z, &quot, &rem, out);
     }
-    divide_free(gates, next, cons, m, quotient, node, num, den, bit, w, out)
-}
 
-// The quotient of two words of w bits, or the remainder; as numbers where both are wholly known.
-pub fn divide(
-    gates: &mut [u32],
-    at: At,
-    cons: &mut [u32],
-    m: usize,
-    quotient: bool,
-    node: u32,
-    num: &[u32],
-    den: &[u32],
-    w: usize,
-    out: &mut [u32],
-) -> Counts
-    requires fits { Fits gates.old at (divide_cost w) }
-    requires w_in_bounds { con_used (m + con_count w) ≤ length cons.old }
-    requires le_w { (1 ≤ w) × (w ≤ 64) × (length num.now ≡ w) × (length den.now ≡ w) × (w ≤ length out.old) }
-    ensures { checked_of gates.new result.at cons.new result.m out.new ≡ divide_words quotient w node num.now den.now (checked_of gates.old at cons.old m out.old) }
-{
-    let known_num = digits::all_known(num);
-    let known_den = digits::all_known(den);
-    if known_num & known_den {
-        known::divide_known(quotient, num, den, w, out);
-        return Counts { at, m };
+    // Operands that are not both wholly known.
+    #[tactic(auto, using(crate::proofs::Paths::steps), unfolding(crate::specs::Divide::by_zero, loops::specs::Loop::pick))]
+    fn by_zero(&self, lists: &mut Lists, out: &mut [u32])
+        requires fits { Fits lists.old.gates (divide_cost self.now.w) }
+        requires cons_fit { ConFits lists.old.cons (con_count self.now.w) }
+        requires le_w { (1 ≤ self.now.w) × (self.now.w ≤ 64) × (self.now.w ≤ length self.now.num.now) × (self.now.w ≤ length self.now.den.now) × (self.now.w ≤ length out.old) }
+        ensures same { SameLists lists.old lists.new }
+        ensures made { checked_of lists.new out.new ≡ by_zero self.now.quotient self.now.w self.now.node self.now.num.now self.now.den.now (checked_of lists.old out.old) }
+    {
+        let z = zero::zero_bit(&mut lists.gates, self.den, self.w);
+        if z == 1 {
+            self.put_zero(out);
+        } else {
+            self.divide_free(lists, z, out);
+        }
     }
-    by_zero(gates, at, cons, m, quotient, node, num, den, w, out)
+
+    // As numbers where both operands are wholly known.
+    #[tactic(auto, using(crate::proofs::Paths::steps), unfolding(crate::specs::Divide::divide_words, loops::specs::Loop::pick))]
+    pub fn divide(&self, lists: &mut Lists, out: &mut [u32])
+        requires fits { Fits lists.old.gates (divide_cost self.now.w) }
+        requires cons_fit { ConFits lists.old.cons (con_count self.now.w) }
+        requires le_w { (1 ≤ self.now.w) × (self.now.w ≤ 64) × (length self.now.num.now ≡ self.now.w) × (length self.now.den.now ≡ self.now.w) × (self.now.w ≤ length out.old) }
+        ensures same { SameLists lists.old lists.new }
+        ensures made { checked_of lists.new out.new ≡ divide_words self.now.quotient self.now.w self.now.node self.now.num.now self.now.den.now (checked_of lists.old out.old) }
+    {
+        let known_num = digits::all_known(self.num);
+        let known_den = digits::all_known(self.den);
+        if known_num & known_den {
+            self.divide_known(out);
+        } else {
+            self.by_zero(lists, out);
+        }
+    }
 }

@@ -5,6 +5,7 @@ pub mod check;
 pub mod constraint;
 pub mod divide;
 pub mod known;
+pub mod lists;
 pub mod pair;
 pub mod rows;
 pub mod zero;

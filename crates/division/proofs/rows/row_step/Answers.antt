@@ -1,29 +1,32 @@
-use Rattle.words.specs.Num.{filled}
+use native.Mathlib.Omega.{arith}
 use Prim.Native.Nat.{◌-◌}
 use lib.ListN.{get_or}
-use native.Mathlib.Omega.{arith}
+use Rattle.words.specs.Num.{filled}
+use Rattle.words.proofs.AddLaws.{chain-three}
 use Rattle.words.proofs.MulStep.{row-cost}
 use Rattle.division.specs.Rows.{places}
-use Rattle.division.proofs.Paths.{lost-room, chain-room, row-path, each-count}
+use Rattle.division.proofs.Paths.{row-most}
 use Rattle.division.proofs.rows.row_step.Goals as goal
 
-pub each_bit-n-requires : goal.each_bit-n-requires
-each_bit-n-requires c = omega (arith, row-cost c.args.quot.now (get_or c.args.den.now c.args.i 0) (c.args.w - c.args.i))
-
-pub each_bit-next-requires : goal.each_bit-next-requires
+pub each_bit-requires-2-clause-fits : goal.each_bit-requires-2-clause-fits
 unfolding filled
-each_bit-next-requires c = omega (arith, lost-room c.args.w c.args.quot.now c.args.den.now _ _ c.args.i _ _ _ c.each_bit-n.ensures (places (c.args.w - c.args.i) c.args.w c.args.quot.now))
+each_bit-requires-2-clause-fits c =
+    let d = get_or c.args.den.now c.args.i 0 in
+    let k = c.args.w - c.args.i in
+    omega (
+      arith,
+      row-most c.args.quot.now d k c.args.lists.now.gates c.each_bit.new.list _ c.each_bit.ensures.made,
+      row-cost (places k c.args.w c.args.quot.now) d c.args.i,
+    )
 
-pub add_onto-c-requires : goal.add_onto-c-requires
+pub add_onto-carry-requires-clause-fits : goal.add_onto-carry-requires-clause-fits
 unfolding filled
-add_onto-c-requires c = omega (arith, chain-room c.args.w c.args.quot.now c.args.den.now _ _ c.args.i _ _ _ c.each_bit-n.ensures _ _ _ c.each_bit-next.ensures c.args.sum.now)
-
-pub constrain_each-k-requires : goal.constrain_each-k-requires
-constrain_each-k-requires c = let p = c.requires.i_in_bounds in let q = c.requires.i_lt_w in omega arith
-
-pub put_constraint-end-requires : goal.put_constraint-end-requires
-put_constraint-end-requires c = let p = c.requires.i_in_bounds in omega (arith, each-count _ _ c.args.i _ _ _ c.constrain_each-k.ensures)
-
-pub returns : goal.returns
-unfolding filled
-returns c = row-path c.args.w c.args.quot.now c.args.den.now _ _ c.args.i _ _ _ c.each_bit-n.ensures _ _ _ c.each_bit-next.ensures _ _ _ _ _ _ _ _ _ _ _ c.add_onto-c.ensures c.constrain_each-k.ensures c.put_constraint-end.ensures
+add_onto-carry-requires-clause-fits c =
+    let d = get_or c.args.den.now c.args.i 0 in
+    let k = c.args.w - c.args.i in
+    omega (
+      arith,
+      row-most c.args.quot.now d k c.args.lists.now.gates c.each_bit.new.list _ c.each_bit.ensures.made,
+      row-most (places k c.args.w c.args.quot.now) d c.args.i c.each_bit.new.list c.each_bit-2.new.list _ c.each_bit-2.ensures.made,
+      chain-three c.args.i c.args.sum.now c.each_bit.new.out k,
+    )

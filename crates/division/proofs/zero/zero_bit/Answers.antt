@@ -1,13 +1,8 @@
-use Rattle.words.specs.Num.{filled}
 use native.Mathlib.Omega.{arith}
-use Rattle.division.proofs.Paths.{zero-path}
+use Rattle.words.specs.Num.{filled}
 use Rattle.division.proofs.ZeroLaws.{zero-cost}
 use Rattle.division.proofs.zero.zero_bit.Goals as goal
 
 pub eq_words-requires : goal.eq_words-requires
 unfolding filled
 eq_words-requires c = omega (arith, zero-cost c.args.den.now c.args.w c.requires.le_w.0)
-
-pub returns : goal.returns
-unfolding filled
-returns c = zero-path _ _ _ _ c.eq_words.ensures
