@@ -1,16 +1,7 @@
-use borrow.Author.Rules.{rules}
-use native.Mathlib.Omega.{arith}
-use Rattle.loops.proofs.Loop.{first-none, first_more, first_found, first_done}
+use Rattle.std.proofs.Common.{rules, tests}
+use Rattle.loops.proofs.Search.{found_by_find}
+use Rattle.netlist.specs.Eval.{out_of_range}
 use Rattle.netlist.proofs.eval.first_bad_input.Goals as goal
 
-pub loop-i-init : goal.loop-i-init
-loop-i-init c = (omega arith, first-none _)
-
-pub returns-then-input_bad : goal.returns-then-input_bad
-returns-then-input_bad c = search (rules, first_found)
-
-pub loop-i-preserved : goal.loop-i-preserved
-loop-i-preserved c = (omega arith, search (rules, first_more))
-
 pub returns : goal.returns
-returns c = search (rules, first_done)
+returns c = found_by_find (out_of_range c.args.gates.now c.args.values.now) c.args.n _ _ _ c.find.ensures.ran (λ x b q k. search (rules, tests))
