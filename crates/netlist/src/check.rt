@@ -78,14 +78,7 @@ fn is_faulty(gates: &[u32], i: usize) -> bool
     !later_good(i, g)
 }
 
-fn first_faulty(gates: &[u32], n: usize) -> Option<usize>
-    requires { Room gates.now n }
-    ensures { result ≡ found n (faulty gates.now) }
-{
-    (0..n).find(|&i| is_faulty(gates, i))
-}
-
-#[tactic(auto, using(crate::proofs::Paths::list_found, crate::proofs::Paths::list_good, crate::proofs::Paths::list_size))]
+#[tactic(auto, using(crate::proofs::Paths::list_size))]
 pub fn check_gates(gates: &[u32]) -> Result<(), Refusal>
     ensures { result ≡ list_fault gates.now }
 {
@@ -93,7 +86,7 @@ pub fn check_gates(gates: &[u32]) -> Result<(), Refusal>
     if !(record::no_rest(gates) & (2 <= n)) {
         return Err(Refusal::GateList(0));
     }
-    match first_faulty(gates, n) {
+    match (0..n).find(|&i| is_faulty(gates, i)) {
         Some(i) => Err(Refusal::GateList(i)),
         None => Ok(()),
     }

@@ -46,13 +46,6 @@ fn input_bad(gates: &[u32], values: &[u8], i: usize) -> bool
     Gate::is_free(g.kind) & (2 <= values[i])
 }
 
-fn first_bad_input(gates: &[u32], values: &[u8], n: usize) -> Option<usize>
-    requires { Room gates.now n × (n ≤ length values.now) }
-    ensures { result ≡ found n (out_of_range gates.now values.now) }
-{
-    (0..n).find(|&i| input_bad(gates, values, i))
-}
-
 #[tactic(auto, using(loops::proofs::Loop::for_loop))]
 fn eval_all(gates: &[u32], values: &mut [u8], n: usize)
     requires { Room gates.now n × (n ≤ length values.old) }
@@ -64,7 +57,7 @@ fn eval_all(gates: &[u32], values: &mut [u8], n: usize)
 }
 
 // A list without fault: 12, then 13, then the values.
-#[tactic(auto, using(crate::proofs::Paths::sound_room, crate::proofs::Paths::sound_input, crate::proofs::Paths::sound_done))]
+#[tactic(auto, using(crate::proofs::Paths::sound_room))]
 fn eval_sound(gates: &[u32], values: &mut [u8]) -> Result<(), Refusal>
     ensures { run result values.new ≡ eval_sound gates.now values.old }
 {
@@ -72,7 +65,7 @@ fn eval_sound(gates: &[u32], values: &mut [u8]) -> Result<(), Refusal>
     if values.len() < n {
         return Err(Refusal::ValueRoom);
     }
-    match first_bad_input(gates, values, n) {
+    match (0..n).find(|&i| input_bad(gates, values, i)) {
         Some(i) => Err(Refusal::Input(i)),
         None => {
             eval_all(gates, values, n);
