@@ -9,15 +9,18 @@ use lib.Dec.{eqb, ltb, leb}
 use lib.ListN.{length, get_or, set, replicate, length-set, length-replicate}
 use lib.Seq.{get_or-set_same, get_or-set_other}
 use borrow.Author.Tests.{lt-ltb, le-ltb, le-leb, leb-true, ltb-true, eqb-true, not-false, ltb-false}
+use Rattle.std.specs.declared.result.Result.{Result}
+use Rattle.std.specs.declared.result.Result.TheVariants.{Ok, Err}
+use Rattle.std.specs.Result.{is_ok}
 use Rattle.loops.specs.Loop.{pick, iter, first, bit}
 use Rattle.loops.proofs.Loop.{iter-inv, both, either, first_below, first-true}
 use Rattle.netlist.specs.declared.record.Gate.{Gate}
-use Rattle.netlist.specs.declared.check.Answer.{Answer}
-use Rattle.netlist.specs.declared.check.Answer.TheVariants.{Done, GateList, ValueRoom, Input}
+use Rattle.netlist.specs.declared.check.Refusal.{Refusal}
+use Rattle.netlist.specs.declared.check.Refusal.TheVariants.{GateList, ValueRoom, Input}
 use Rattle.netlist.specs.Record.{gate_at, Room, records, whole_records}
 use Rattle.netlist.specs.Kind.{free, uses_y, uses_z, value_of}
 use Rattle.netlist.specs.Net.{Net, Assign, Says, Obeys}
-use Rattle.netlist.specs.Check.{field_good, const_good, later_good, faulty, list_fault, is_done}
+use Rattle.netlist.specs.Check.{field_good, const_good, later_good, faulty, list_fault}
 use Rattle.netlist.specs.Eval.{truth, gate_value, eval_step, out_of_range, Run, run, eval_sound, eval_gates}
 use Rattle.netlist.specs.Right.{Evaluated}
 
@@ -228,28 +231,33 @@ module _ (s : Net) (good : (j : ℕ) → j < s.n → faulty s.gates j ≡ false)
   unfolding solved
   solved-given j h f = bit-truth (given j) _ (ev.kept j f ∙ (bytes-law s.n).there j h)
 
-left : (b : Bool) (x y : Answer) → is_done y ≡ false → pick b x y ≡ Done → (b ≡ true) × (x ≡ Done)
+-- what is answered, and that nothing is refused
+abbrev Answer : Type 0
+Answer = Result (Unit {0}) Refusal
+
+abbrev Done : Answer
+Done = Ok tt
+
+left : (b : Bool) (x y : Answer) → is_ok y ≡ false → pick b x y ≡ Done → (b ≡ true) × (x ≡ Done)
 unfolding pick
 left true x y n e = (refl, e)
-left false x y n e = absurd (let z : ◌≡◌ {A = ℕ} 0 1 = cc (ap is_done e) in omega arith)
+left false x y n e = absurd (let z : ◌≡◌ {A = ℕ} 0 1 = cc (ap is_ok e) in omega arith)
 
-right : (b : Bool) (x y : Answer) → is_done x ≡ false → pick b x y ≡ Done → (b ≡ false) × (y ≡ Done)
+right : (b : Bool) (x y : Answer) → is_ok x ≡ false → pick b x y ≡ Done → (b ≡ false) × (y ≡ Done)
 unfolding pick
-right true x y n e = absurd (let z : ◌≡◌ {A = ℕ} 0 1 = cc (ap is_done e) in omega arith)
+right true x y n e = absurd (let z : ◌≡◌ {A = ℕ} 0 1 = cc (ap is_ok e) in omega arith)
 right false x y n e = (refl, e)
 
-is-done : (a : Answer) → is_done a ≡ true → a ≡ Done
-is-done Done e = refl
-is-done (GateList i) e = absurd (let z : ◌≡◌ {A = ℕ} 0 1 = cc in omega arith)
-is-done ValueRoom e = absurd (let z : ◌≡◌ {A = ℕ} 0 1 = cc in omega arith)
-is-done (Input i) e = absurd (let z : ◌≡◌ {A = ℕ} 0 1 = cc in omega arith)
+is-ok : (a : Answer) → is_ok a ≡ true → a ≡ Done
+is-ok (Ok tt) e = refl
+is-ok (Err r) e = absurd (let z : ◌≡◌ {A = ℕ} 0 1 = cc in omega arith)
 
 -- a list without fault has no faulty gate, and two at least
 pub each-good : (l : List ℕ) → list_fault l ≡ Done → (2 ≤ records l) × ((j : ℕ) → j < records l → faulty l j ≡ false)
 unfolding list_fault
 each-good l e =
-    let p = left (whole_records l && leb 2 (records l)) _ (GateList 0) refl e in
-    let q = right (ltb (first (records l) (faulty l)) (records l)) (GateList (first (records l) (faulty l))) Done refl p.1 in (
+    let p = left (whole_records l && leb 2 (records l)) _ (Err (GateList 0)) refl e in
+    let q = right (ltb (first (records l) (faulty l)) (records l)) (Err (GateList (first (records l) (faulty l)))) Done refl p.1 in (
       leb-true 2 (records l) (both (whole_records l) (leb 2 (records l)) p.0).1,
       λ j h. first_below (faulty l) (records l) j (omega (arith, ltb-false (first (records l) (faulty l)) (records l) q.0)),
     )
@@ -269,33 +277,33 @@ passes l w two good = rw (w, le-leb 2 (records l) two, le-ltb (first (records l)
             absurd (let z : ◌≡◌ {A = ℕ} 0 1 = cc in omega arith)
         go (no h) = omega arith
 
-left-run : (P : Run → Type 0) (b : Bool) (x y : Run) → is_done y.answer ≡ false → (b ≡ true → x.answer ≡ Done → P x) → (pick b x y).answer ≡ Done → P (pick b x y)
+left-run : (P : Run → Type 0) (b : Bool) (x y : Run) → is_ok y.answer ≡ false → (b ≡ true → x.answer ≡ Done → P x) → (pick b x y).answer ≡ Done → P (pick b x y)
 unfolding pick
 left-run P true x y n f e = f refl e
-left-run P false x y n f e = absurd (let z : ◌≡◌ {A = ℕ} 0 1 = cc (ap is_done e) in omega arith)
+left-run P false x y n f e = absurd (let z : ◌≡◌ {A = ℕ} 0 1 = cc (ap is_ok e) in omega arith)
 
-right-run : (P : Run → Type 0) (b : Bool) (x y : Run) → is_done x.answer ≡ false → (b ≡ false → y.answer ≡ Done → P y) → (pick b x y).answer ≡ Done → P (pick b x y)
+right-run : (P : Run → Type 0) (b : Bool) (x y : Run) → is_ok x.answer ≡ false → (b ≡ false → y.answer ≡ Done → P y) → (pick b x y).answer ≡ Done → P (pick b x y)
 unfolding pick
-right-run P true x y n f e = absurd (let z : ◌≡◌ {A = ℕ} 0 1 = cc (ap is_done e) in omega arith)
+right-run P true x y n f e = absurd (let z : ◌≡◌ {A = ℕ} 0 1 = cc (ap is_ok e) in omega arith)
 right-run P false x y n f e = f refl e
 
-outer : (P : Run → Type 0) (l v : List ℕ) (b : Bool) → is_done (list_fault l) ≡ b → (list_fault l ≡ Done → (eval_sound l v).answer ≡ Done → P (eval_sound l v))
+outer : (P : Run → Type 0) (l v : List ℕ) (b : Bool) → is_ok (list_fault l) ≡ b → (list_fault l ≡ Done → (eval_sound l v).answer ≡ Done → P (eval_sound l v))
     → (pick b (eval_sound l v) (run (list_fault l) v)).answer ≡ Done → P (pick b (eval_sound l v) (run (list_fault l) v))
 unfolding pick
-outer P l v true q f k = f (is-done (list_fault l) q) k
-outer P l v false q f k = absurd (let z : ◌≡◌ {A = ℕ} 0 1 = cc (ap is_done k) in omega arith)
+outer P l v true q f k = f (is-ok (list_fault l) q) k
+outer P l v false q f k = absurd (let z : ◌≡◌ {A = ℕ} 0 1 = cc (ap is_ok k) in omega arith)
 
 -- what is answered with Done is what the list makes of what was given
 pub done-right : (l v : List ℕ) → (eval_gates l v).answer ≡ Done → Evaluated l (records l) v (eval_gates l v).values
 unfolding eval_gates eval_sound
-done-right l v e = outer P l v (is_done (list_fault l)) refl inner e
+done-right l v e = outer P l v (is_ok (list_fault l)) refl inner e
   where
     P : Run → Type 0
     P r = Evaluated l (records l) v r.values
 
     inner : list_fault l ≡ Done → (eval_sound l v).answer ≡ Done → P (eval_sound l v)
     inner d =
-        right-run P (ltb (length v) (records l)) (run ValueRoom v) _ refl
+        right-run P (ltb (length v) (records l)) (run (Err ValueRoom) v) _ refl
         (λ b.
-        right-run P (ltb (first (records l) (out_of_range l v)) (records l)) (run (Input (first (records l) (out_of_range l v))) v) _ refl
+        right-run P (ltb (first (records l) (out_of_range l v)) (records l)) (run (Err (Input (first (records l) (out_of_range l v)))) v) _ refl
         (λ c k. evaluated l v (records l) (each-good l d).1 (ltb-false (length v) (records l) b)))
