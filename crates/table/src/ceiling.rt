@@ -1,4 +1,4 @@
-ghost use Rattle.std.specs.Prelude.{◌≡◌, ◌-◌, ◌≤◌, ◌<◌, length};
+ghost use Rattle.std.specs.Prelude.{◌≡◌, ◌-◌, ◌≤◌, ◌<◌, length, Ok};
 ghost use Rattle.table.specs.Node.{Narrow};
 ghost use Rattle.table.specs.Sheet.{table_fault};
 ghost use Rattle.table.specs.Ceiling as top;
@@ -7,7 +7,7 @@ ghost use Rattle.table.specs.Ceiling.{div_gates, div_constraints, shift_gates, m
 use crate::field::{is_given, node_at, width_at};
 use crate::kind::{ADD, AND, EQ, ITE, MUL, NOT, OR, READ, SLL, SRL, SUB, ULT, WRITE, divides};
 use crate::size::{node_size, size_of, times};
-use crate::{Fault, Node, Sums, Unit};
+use crate::{Node, Sums, Unit};
 use digits::powers_below;
 
 fn less_one(a: u64) -> u64
@@ -149,7 +149,7 @@ fn node_constraints(table: &[u64], i: usize) -> u64
 
 // The sums of a table without fault over all its nodes, in one pass; the two constants count among the gates.
 pub fn sums(table: &[u64], addrs: &[u64], w: u64) -> Sums
-    requires { table_fault table.now addrs.now w ≡ Fault.Clear }
+    requires { table_fault table.now addrs.now w ≡ Ok tt }
     ensures { result ≡ sums_of table.now (length addrs.now) w }
 {
     let n = addrs.len() as u64;

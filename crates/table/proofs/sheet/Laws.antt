@@ -1,6 +1,7 @@
 -- The refusal sheet, path by path.
 use mathlib.Core.Path.{◌≡◌, refl, ap, sym, ◌∙◌}
 use mathlib.Core.List.{List}
+use Rattle.std.specs.Prelude.{Result, Ok, Err}
 use mathlib.Core.Bool.{Bool, true, false, not, ◌||◌}
 use Prim.Native.Nat.{ℕ, ◌+◌, ◌*◌, ◌/◌, ◌^◌, ◌≤◌, ◌<◌}
 use native.Mathlib.Omega.{arith}
@@ -13,7 +14,7 @@ use borrow.Author.Tests.{lt-ltb, le-ltb, eq-eqb, ne_eqb}
 use Rattle.loops.specs.Loop.{pick, first}
 use Rattle.loops.proofs.Loop.{pick_true, pick-false, first_more, first_found, first_done}
 use Rattle.table.specs.declared.Fault.{Fault}
-use Rattle.table.specs.declared.Fault.TheVariants.{Clear, Size, Address, Kind, NotLowered, Operand, Sort}
+use Rattle.table.specs.declared.Fault.TheVariants.{Size, Address, Kind, NotLowered, Operand, Sort}
 use Rattle.table.specs.declared.Node.{Node}
 use Rattle.table.specs.Kind.{BAD, named, lowered}
 use Rattle.table.specs.Node.{kind_of, node_at, nodes}
@@ -62,55 +63,62 @@ pass : {A : Type 0} (r s : Bool) (x y z : A) → r ≡ s → not r ≡ false →
 pass r s x y z e b q = q ∙ sym (pick-false (not s) x y (ap not (sym e) ∙ b))
 
 module _ (t : List ℕ) (w i : ℕ) (d : Node) (r : Bool) (er : r ≡ named d.kind) where
-  pub fault-kind : not r ≡ true → Kind i ≡ fault_of t w i d
+  pub fault-kind : not r ≡ true → Err (Kind i) ≡ fault_of t w i d
   unfolding fault_of
   fault-kind h = stop r _ _ _ er h
 
   module _ (hr : not r ≡ false) (s : Bool) (es : s ≡ lowered d.kind) where
-    pub fault-lowered : not s ≡ true → NotLowered i ≡ fault_of t w i d
+    pub fault-lowered : not s ≡ true → Err (NotLowered i) ≡ fault_of t w i d
     unfolding fault_of
     fault-lowered h = pass r _ _ _ _ er hr (stop s _ _ _ es h)
 
     module _ (hs : not s ≡ false) (o : Bool) (eo : o ≡ operands_good i d) where
-      pub fault-operand : not o ≡ true → Operand i ≡ fault_of t w i d
+      pub fault-operand : not o ≡ true → Err (Operand i) ≡ fault_of t w i d
       unfolding fault_of
       fault-operand h = pass r _ _ _ _ er hr (pass s _ _ _ _ es hs (stop o _ _ _ eo h))
 
       module _ (ho : not o ≡ false) (q : Bool) (eq : q ≡ sorts_good t w d) where
-        pub fault-sort : not q ≡ true → Sort i ≡ fault_of t w i d
+        pub fault-sort : not q ≡ true → Err (Sort i) ≡ fault_of t w i d
         unfolding fault_of
         fault-sort h = pass r _ _ _ _ er hr (pass s _ _ _ _ es hs (pass o _ _ _ _ eo ho (stop q _ _ _ eq h)))
 
-        pub fault-clear : not q ≡ false → Clear ≡ fault_of t w i d
+        pub fault-clear : not q ≡ false → Ok tt ≡ fault_of t w i d
         unfolding fault_of
         fault-clear h = pass r _ _ _ _ er hr (pass s _ _ _ _ es hs (pass o _ _ _ _ eo ho (pass q _ _ _ _ eq h refl)))
 
+pub faulty : (f : Fault) → is_clear (Err f) ≡ false
+faulty Size = refl
+faulty Address = refl
+faulty (Kind i) = refl
+faulty (NotLowered i) = refl
+faulty (Operand i) = refl
+faulty (Sort i) = refl
+
 module _ (t : List ℕ) (w i : ℕ) (e : i ≡ first i (node_bad t w)) where
-  module _ (f : Fault) (r : Bool) (q : f ≡ node_fault t w (i + 1)) (c : r ≡ is_clear f) where
-    pub nodes-found : i < nodes t → not r ≡ true → f ≡ nodes_fault t w
-    unfolding nodes_fault node_bad pick
-    nodes-found h b =
-        rw (← first_found (node_bad t w) (nodes t) i (not r) h e (rw (c, q) refl) b, lt-ltb i (nodes t) h) q
+  pub nodes-found : (f : Fault) → Err f ≡ node_fault t w (i + 1) → i < nodes t → Err f ≡ nodes_fault t w
+  unfolding nodes_fault node_bad pick
+  nodes-found f q h =
+      rw (← first_found (node_bad t w) (nodes t) i true h e (rw (← q, faulty f) refl) refl, lt-ltb i (nodes t) h) q
 
-    pub nodes-more : not r ≡ false → i + 1 ≡ first (i + 1) (node_bad t w)
-    unfolding node_bad
-    nodes-more b = first_more (node_bad t w) i (not r) e (rw (c, q) refl) b
+  pub nodes-more : Ok tt ≡ node_fault t w (i + 1) → i + 1 ≡ first (i + 1) (node_bad t w)
+  unfolding node_bad
+  nodes-more q = first_more (node_bad t w) i false e (rw (← q) refl) refl
 
-  pub nodes-done : nodes t ≤ i → i ≤ nodes t → Clear ≡ nodes_fault t w
-  unfolding nodes_fault pick
-  nodes-done h m = rw (← first_done (node_bad t w) i (nodes t) h m e, le-ltb i (nodes t) h)
+pub nodes-done : (t : List ℕ) (w : ℕ) → nodes t ≡ first (nodes t) (node_bad t w) → Ok tt ≡ nodes_fault t w
+unfolding nodes_fault pick
+nodes-done t w e = rw (← e, le-ltb (nodes t) (nodes t) (omega arith))
 
 module _ (t l : List ℕ) (w : ℕ) (r : Bool) (e : r ≡ size_good t l w) where
-  pub table-size : not r ≡ true → Size ≡ table_fault t l w
+  pub table-size : not r ≡ true → Err Size ≡ table_fault t l w
   unfolding table_fault
   table-size h = stop r _ _ _ e h
 
   module _ (h : not r ≡ false) (s : Bool) (q : s ≡ addresses_bad l w) where
-    pub table-address : s ≡ true → Address ≡ table_fault t l w
+    pub table-address : s ≡ true → Err Address ≡ table_fault t l w
     unfolding table_fault
     table-address b = pass r _ _ _ _ e h (sym (pick_true _ _ _ (sym q ∙ b)))
 
-    pub table-nodes : (f : Fault) → s ≡ false → f ≡ nodes_fault t w → f ≡ table_fault t l w
+    pub table-nodes : (f : Result Unit Fault) → s ≡ false → f ≡ nodes_fault t w → f ≡ table_fault t l w
     unfolding table_fault
     table-nodes f b n = pass r _ _ _ _ e h (n ∙ sym (pick-false _ _ _ (sym q ∙ b)))
 
