@@ -179,10 +179,12 @@ pub fn lower_marked(
     ensures promise { Promise (source table.now addrs.now word) gates.old constraints.old map.old result gates.new constraints.new map.new }
     ensures marks_after { marks.new ≡ marked (source table.now addrs.now word) gates.old constraints.old marks.old result }
 {
-    if let Err(f) = table::sheet::check_table(table, addrs, word) {
+    let checked = table::sheet::check_table(table, addrs, word);
+    let asked = table::sheet::asks(table);
+    if let Err(f) = checked {
         return Answer::Table(f);
     }
-    if !table::sheet::asks(table) {
+    if !asked {
         return Answer::NothingAsked;
     }
     let mut offs = [0usize; 514];
