@@ -1,5 +1,5 @@
 ghost use Rattle.std.specs.Prelude.{◌≡◌, ◌^◌, ◌≤◌, ◌<◌, ltb, length, Ok, Err};
-ghost use Rattle.loops.specs.Loop.{first};
+ghost use Rattle.loops.specs.Loop.{found};
 ghost use Rattle.table.specs.Sheet as sheet;
 ghost use Rattle.table.specs.Sheet.{size_good, is_at, address_bad, addresses_bad, operand, operands_good, sort_good, sorts_good, fault_of, node_fault, nodes_fault, table_fault};
 
@@ -73,19 +73,11 @@ fn size_good(table: &[u64], addrs: &[u64], w: u64) -> bool
     (len % 6 == 0) & (len / 6 <= 512) & (addrs.len() <= 64) & (1 <= w) & (w <= 64)
 }
 
-// The place of x among the first n addresses; n where it is not there.
-pub fn find(addrs: &[u64], n: usize, x: u64) -> usize
-    requires { n ≤ length addrs.now }
-    ensures { result ≡ first n (is_at addrs.now x) }
+// The place of x among the addresses.
+pub fn find(addrs: &[u64], x: u64) -> Option<usize>
+    ensures { result ≡ found (length addrs.now) (is_at addrs.now x) }
 {
-    let mut j = 0;
-    while j < n {
-        if addrs[j] == x {
-            return j;
-        }
-        j += 1;
-    }
-    j
+    addrs.iter().position(|a| *a == x)
 }
 
 fn address_bad(addrs: &[u64], w: u64, i: usize) -> bool
@@ -93,20 +85,13 @@ fn address_bad(addrs: &[u64], w: u64, i: usize) -> bool
     ensures { result ≡ address_bad addrs.now w i }
 {
     let x = addrs[i];
-    (find(addrs, i, x) < i) | !fits(x, w)
+    addrs[..i].contains(&x) | !fits(x, w)
 }
 
 fn addresses_bad(addrs: &[u64], w: u64) -> bool
     ensures { result ≡ addresses_bad addrs.now w }
 {
-    let mut i = 0;
-    while i < addrs.len() {
-        if address_bad(addrs, w, i) {
-            return true;
-        }
-        i += 1;
-    }
-    false
+    (0..addrs.len()).any(|i| address_bad(addrs, w, i))
 }
 
 // Whether x may be an operand of node i, which must or may use one there.
@@ -208,13 +193,5 @@ pub fn asks(table: &[u64]) -> bool
     ensures { result ≡ sheet.asks table.now }
 {
     let whole = table.len() / 6;
-    let mut i = 0;
-    while i < whole {
-        let node = node_at(table, i + 1);
-        if node.kind == BAD {
-            return true;
-        }
-        i += 1;
-    }
-    false
+    (0..whole).any(|i| node_at(table, i + 1).kind == BAD)
 }

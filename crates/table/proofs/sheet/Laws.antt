@@ -9,7 +9,10 @@ use native.Mathlib.Nat.{div-eq_of_lt, div-lt_iff_lt-mul, lt_of_lt_of_le}
 use native.Mathlib.Decide.{dec_lt}
 use lib.Dec.{eqb, ltb}
 use lib.Pow.{pow_pos, pow_mono}
-use lib.ListN.{length, get_or}
+use lib.ListN.{length, get_or, take}
+use Rattle.std.specs.List.{IsAnyAnswer}
+use Rattle.std.proofs.lemmas.List.{get_or-take, length-take-le}
+use Rattle.table.proofs.Any.{any-some, any-none}
 use borrow.Author.Tests.{lt-ltb, le-ltb, eq-eqb, ne_eqb}
 use Rattle.loops.specs.Loop.{pick, first}
 use Rattle.loops.proofs.Loop.{pick_true, pick-false, first_more, first_found, first_done}
@@ -33,27 +36,17 @@ fits-small x k = go (dec_lt x (2 ^ k))
 pub fits_all : (x k : ℕ) → x < 2 ^ 64 → 64 ≤ k → true ≡ ltb x (2 ^ k)
 fits_all x k h l = sym (lt-ltb x (2 ^ k) (lt_of_lt_of_le h (pow_mono l)))
 
-module _ (l : List ℕ) (n x j : ℕ) (e : j ≡ first j (is_at l x)) where
-  pub find-found : j < n → get_or l j 0 ≡ x → j ≡ first n (is_at l x)
-  unfolding is_at
-  find-found h q = first_found (is_at l x) n j true h e (sym (eq-eqb (get_or l j 0) x q)) refl
+-- `contains` of the first i addresses
+listed-before : (l : List ℕ) (x i : ℕ) (r : Bool) → i ≤ length l → IsAnyAnswer (λ y b. eqb y x ≡ b) (take i l) r → r ≡ ltb (first i (is_at l x)) i
+unfolding is_at
+listed-before l x i true h a =
+    let k : a.0 < i = omega (arith, length-take-le i l h) in
+    any-some (is_at l x) i a.0 k (rw (get_or-take i l a.0 0 k) at (a.2 0))
+listed-before l x i false h a = any-none (is_at l x) i (λ k m. rw (get_or-take i l k 0 m) at (a k 0 (omega arith) (omega (arith, length-take-le i l h))))
 
-  pub find-more : (get_or l j 0 ≡ x → ⊥) → j + 1 ≡ first (j + 1) (is_at l x)
-  unfolding is_at
-  find-more h = first_more (is_at l x) j false e (sym (ne_eqb (get_or l j 0) x h)) refl
-
-pub address-path : (l : List ℕ) (w i j : ℕ) (r : Bool) → j ≡ first i (is_at l (get_or l i 0)) → r ≡ ltb (get_or l i 0) (2 ^ w) → (ltb j i || not r) ≡ address_bad l w i
+pub address-path : (l : List ℕ) (w i : ℕ) (r s : Bool) → i < length l → IsAnyAnswer (λ y b. eqb y (get_or l i 0) ≡ b) (take i l) r → s ≡ ltb (get_or l i 0) (2 ^ w) → (r || not s) ≡ address_bad l w i
 unfolding address_bad
-address-path l w i j r e q = rw (← e, ← q)
-
-module _ (l : List ℕ) (w i : ℕ) (e : i ≡ first i (address_bad l w)) where
-  pub addresses-found : (r : Bool) → i < length l → r ≡ address_bad l w i → r ≡ true → true ≡ addresses_bad l w
-  unfolding addresses_bad
-  addresses-found r h q t = rw (← first_found (address_bad l w) (length l) i r h e q t, lt-ltb i (length l) h)
-
-  pub addresses-done : length l ≤ i → i ≤ length l → false ≡ addresses_bad l w
-  unfolding addresses_bad
-  addresses-done h m = rw (← first_done (address_bad l w) i (length l) h m e, le-ltb i (length l) h)
+address-path l w i r s h a q = rw (← listed-before l (get_or l i 0) i r (omega arith) a, ← q)
 
 -- a test that failed was answered, one that held is passed
 stop : {A : Type 0} (r s : Bool) (x y : A) → r ≡ s → not r ≡ true → x ≡ pick (not s) x y
@@ -121,21 +114,3 @@ module _ (t l : List ℕ) (w : ℕ) (r : Bool) (e : r ≡ size_good t l w) where
     pub table-nodes : (f : Result Unit Fault) → s ≡ false → f ≡ nodes_fault t w → f ≡ table_fault t l w
     unfolding table_fault
     table-nodes f b n = pass r _ _ _ _ e h (n ∙ sym (pick-false _ _ _ (sym q ∙ b)))
-
-module _ (t : List ℕ) (i : ℕ) (e : i ≡ first i (asks_at t)) where
-  module _ (d : Node) (q : d ≡ node_at t (i + 1)) where
-    is-kind : d.kind ≡ kind_of t (i + 1)
-    is-kind = ap (λ (x : Node). x.kind) q
-
-    pub asks-found : i < nodes t → d.kind ≡ BAD → true ≡ asks t
-    unfolding asks asks_at
-    asks-found h b =
-        rw (← first_found (asks_at t) (nodes t) i true h e (sym (eq-eqb (kind_of t (i + 1)) BAD (sym is-kind ∙ b))) refl, lt-ltb i (nodes t) h)
-
-    pub asks-more : (d.kind ≡ BAD → ⊥) → i + 1 ≡ first (i + 1) (asks_at t)
-    unfolding asks_at
-    asks-more h = first_more (asks_at t) i false e (sym (ne_eqb (kind_of t (i + 1)) BAD (λ b. h (is-kind ∙ b)))) refl
-
-  pub asks-done : nodes t ≤ i → i ≤ nodes t → false ≡ asks t
-  unfolding asks
-  asks-done h m = rw (← first_done (asks_at t) i (nodes t) h m e, le-ltb i (nodes t) h)
