@@ -16,18 +16,18 @@ ghost use Rattle.ffi.specs.Count.{gates_made, constraints_held, lower_answer, ro
 use netlist::sheet;
 use table::{Fault, Sums};
 
-// The sums of a table whose fault is known.
-fn room_of(table: &[u64], addrs: &[u64], word: u64, f: Fault) -> Sums
-    requires { f ≡ table_fault table.now addrs.now word }
+// The sums of a table that was checked.
+fn room_of(table: &[u64], addrs: &[u64], word: u64, checked: Result<(), Fault>) -> Sums
+    requires { checked ≡ table_fault table.now addrs.now word }
     ensures { result ≡ room_for table.now addrs.now word }
 {
-    if table::sheet::clear(f) {
-        return table::ceiling::sums(table, addrs, word);
-    }
-    Sums {
-        gates: 0,
-        map: 0,
-        constraints: 0,
+    match checked {
+        Ok(()) => table::ceiling::sums(table, addrs, word),
+        Err(_) => Sums {
+            gates: 0,
+            map: 0,
+            constraints: 0,
+        },
     }
 }
 
@@ -48,13 +48,13 @@ pub extern "C" fn ramstitcher_room(
     ensures constraints_after { constraints.new ≡ (room_for table.now addrs.now word).constraints }
     ensures map_after { map.new ≡ (room_for table.now addrs.now word).map }
 {
-    let f = table::sheet::check_table(table, addrs, word);
-    let s = room_of(table, addrs, word, f);
+    let checked = table::sheet::check_table(table, addrs, word);
+    let s = room_of(table, addrs, word, checked);
     *gates = s.gates;
     *constraints = s.constraints;
     *map = s.map;
-    *node = table::sheet::node(f);
-    table::sheet::number(f)
+    *node = table::sheet::node(checked);
+    table::sheet::number(checked)
 }
 
 // The lowering. Returns the number on the refusal sheet, 0 for none.

@@ -1,15 +1,15 @@
 -- What a caller of the lowering knows by its answer.
-use mathlib.Core.Path.{◌≡◌, refl, ap, sym, ◌∙◌, subst}
+use Rattle.std.specs.Prelude.{Ok}
+use mathlib.Core.Path.{◌≡◌, refl, sym, ◌∙◌, subst}
 use mathlib.Core.List.{List}
 use mathlib.Core.Bool.{Bool, true, false}
 use Prim.Native.Nat.{ℕ, ◌+◌, ◌≤◌, ◌<◌}
 use native.Mathlib.Omega.{arith}
 use lib.ListN.{length}
-use Rattle.loops.proofs.Loop.{pick_true, pick-false}
-use Rattle.table.specs.declared.Fault.TheVariants.{Clear}
+use Rattle.loops.proofs.Loop.{pick-false}
 use Rattle.table.specs.Kind.{BAD}
 use Rattle.table.specs.Node.{nodes, kind_of}
-use Rattle.table.specs.Sheet.{table_fault, is_clear, asks}
+use Rattle.table.specs.Sheet.{table_fault, asks}
 use Rattle.table.proofs.Whole.{asked}
 use Rattle.netlist.specs.Record.{gate, put, Room}
 use Rattle.netlist.proofs.RecordLaws.{put-length}
@@ -69,6 +69,6 @@ module _ (S : Source) (g c m : List ℕ) (none : (i : ℕ) → i < nodes S.table
   asks_nothing true e = let q = asked S.table e in absurd (none q.0 q.1 q.2)
   asks_nothing false e = e
 
-  pub turned_down : table_fault S.table S.addrs S.word ≡ Clear → lower_all S g c m ≡ run NothingAsked g c m
+  pub turned_down : table_fault S.table S.addrs S.word ≡ Ok tt → lower_all S g c m ≡ run NothingAsked g c m
   unfolding lower_all lower_asked
-  turned_down clear = pick_true _ _ _ (ap is_clear clear) ∙ pick-false _ _ _ (asks_nothing (asks S.table) refl)
+  turned_down clear = rw clear (pick-false _ _ _ (asks_nothing (asks S.table) refl))

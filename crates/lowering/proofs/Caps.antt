@@ -1,4 +1,5 @@
 -- The gates of any table have numbers that a u32 holds.
+use Rattle.std.specs.Prelude.{Ok}
 use mathlib.Core.Path.{◌≡◌}
 use mathlib.Core.List.{List}
 use Prim.Native.Nat.{ℕ, zero, suc, ◌+◌, ◌-◌, ◌*◌, ◌≤◌, ◌<◌}
@@ -7,7 +8,6 @@ use lib.Dec.{eqb}
 use lib.ListN.{length}
 use Rattle.loops.proofs.Loop.{by-pick}
 use Rattle.table.specs.declared.Node.{Node}
-use Rattle.table.specs.declared.Fault.TheVariants.{Clear}
 use Rattle.table.specs.declared.Unit.TheVariants.{Bit}
 use Rattle.table.specs.Node.{nodes, node_at, width_of, a_of}
 use Rattle.table.specs.Size.{size_of}
@@ -72,7 +72,7 @@ module _ (n w : ℕ) (few : n ≤ 64) (small : w ≤ 64) where
       (λ _. by-pick (λ y. y ≤ 20480) _ _ _ (λ _. div_most d.width h) (λ _. plain-most d x h k))
 
 -- and of all
-pub gates-cap : (t l : List ℕ) (w : ℕ) → table_fault t l w ≡ Clear → (sums_of t (length l) w).gates < 4294967296
+pub gates-cap : (t l : List ℕ) (w : ℕ) → table_fault t l w ≡ Ok tt → (sums_of t (length l) w).gates < 4294967296
 unfolding sums_of node_gates
 gates-cap t l w clear =
     let f = fine t l w clear in

@@ -1,7 +1,8 @@
 -- What the proof of the entry point cites: refusal by refusal, and where the lowering ended.
+use Rattle.std.specs.Prelude.{Ok, Err}
 use mathlib.Core.Path.{◌≡◌, refl, ap, sym, ◌∙◌}
 use mathlib.Core.List.{List, ◌++◌}
-use mathlib.Core.Bool.{Bool, true, false, not}
+use mathlib.Core.Bool.{Bool, true, false}
 use Prim.Native.Nat.{ℕ, ◌+◌, ◌≤◌, ◌<◌}
 use native.Mathlib.Omega.{arith}
 use lib.ListN.{length, take, drop}
@@ -9,14 +10,13 @@ use lib.Seq.{length-take-le}
 use borrow.Author.Tests.{lt-ltb, le-ltb}
 use Rattle.loops.proofs.Loop.{pick_true, pick-false}
 use Rattle.table.specs.declared.Fault.{Fault}
-use Rattle.table.specs.declared.Fault.TheVariants.{Clear}
 use Rattle.table.specs.declared.Unit.TheVariants.{Bit}
 use Rattle.table.specs.declared.Sums.{Sums}
 use Rattle.table.specs.Node.{nodes, Narrow}
 use Rattle.table.specs.Size.{size_sum, offsets_into}
-use Rattle.table.specs.Sheet.{table_fault, is_clear, asks}
+use Rattle.table.specs.Sheet.{table_fault, asks}
 use Rattle.table.specs.Ceiling.{sums_of}
-use Rattle.table.proofs.Whole.{within, fine, is-clear}
+use Rattle.table.proofs.Whole.{within, fine}
 use Rattle.table.proofs.size.Laws as size
 use Rattle.netlist.specs.Record.{records}
 use Rattle.division.specs.declared.constraint.Counts.{Counts}
@@ -92,7 +92,7 @@ module _ (S : Source) (g c m z : List ℕ) (s : Sums) (e : s ≡ sums S) where
         pairs : (sums S).constraints ≤ con_records c
         pairs = rw e at le3
 
-        pub accepted : (table_fault S.table S.addrs S.word ≡ Clear) × (asks S.table ≡ true) → Accepted S g c m
+        pub accepted : (table_fault S.table S.addrs S.word ≡ Ok tt) × (asks S.table ≡ true) → Accepted S g c m
         accepted h = record { clear = h.0; asked = h.1; gates = enough; map = places; constraints = pairs }
 
         pub roomy : (r : Run) → r ≡ ended S m (lowered S g c) → r ≡ lower_clear S g c m
@@ -104,25 +104,22 @@ module _ (S : Source) (g c m z : List ℕ) (s : Sums) (e : s ≡ sums S) where
             ∙ (pick-false _ _ _ (le-ltb (length m) (sums S).map places) ∙ pick-false _ _ _ (le-ltb (con_records c) (sums S).constraints pairs)))
 
 -- the table first: 1 to 6, then 14
-module _ (S : Source) (g c m : List ℕ) (f : Fault) (e : f ≡ table_fault S.table S.addrs S.word) (b : Bool) (k : b ≡ is_clear f) where
-  pub faulty : b ≡ false → run (Table f) g c m ≡ lower_all S g c m
+module _ (S : Source) (g c m : List ℕ) where
+  pub faulty : (f : Fault) → Err f ≡ table_fault S.table S.addrs S.word → run (Table f) g c m ≡ lower_all S g c m
   unfolding lower_all
-  faulty h = rw e (sym (pick-false _ _ _ (ap is_clear (sym e) ∙ sym k ∙ h)))
+  faulty f e = rw (← e)
 
-  pub clear-table : b ≡ true → table_fault S.table S.addrs S.word ≡ Clear
-  clear-table h = sym e ∙ is-clear f (ap not (sym k ∙ h))
-
-  module _ (h : b ≡ true) (s : Bool) (q : s ≡ asks S.table) where
+  module _ (e : Ok tt ≡ table_fault S.table S.addrs S.word) (s : Bool) (q : s ≡ asks S.table) where
     past : lower_all S g c m ≡ lower_asked S g c m
     unfolding lower_all
-    past = pick_true _ _ _ (ap is_clear (sym e) ∙ sym k ∙ h)
+    past = rw (← e)
 
     pub unasked : s ≡ false → run NothingAsked g c m ≡ lower_all S g c m
     unfolding lower_asked
     unasked n = sym (past ∙ pick-false _ _ _ (sym q ∙ n))
 
-    pub clear-asked : s ≡ true → (table_fault S.table S.addrs S.word ≡ Clear) × (asks S.table ≡ true)
-    clear-asked y = (clear-table h, sym q ∙ y)
+    pub clear-asked : s ≡ true → (table_fault S.table S.addrs S.word ≡ Ok tt) × (asks S.table ≡ true)
+    clear-asked y = (sym e, sym q ∙ y)
 
     pub clear-all : s ≡ true → (r : Run) → r ≡ lower_clear S g c m → r ≡ lower_all S g c m
     unfolding lower_asked

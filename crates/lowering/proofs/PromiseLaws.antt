@@ -1,16 +1,16 @@
 -- From the answer the demands follow: what the entry point promises.
+use Rattle.std.specs.Prelude.{Result, Ok, Err}
 use mathlib.Core.Path.{◌≡◌, refl, ap, sym, ◌∙◌, subst}
 use mathlib.Core.List.{List, [], ◌++◌}
-use mathlib.Core.Bool.{Bool, true, not}
+use mathlib.Core.Bool.{true}
 use Prim.Native.Nat.{ℕ, suc, ◌+◌, ◌≤◌, ◌<◌}
 use lib.Dec.{ltb}
 use lib.ListN.{length, take, drop}
 use lib.Seq.{take-append_seam}
 use borrow.Author.Tests.{ltb-false}
 use Rattle.loops.proofs.Loop.{by-pick, iter-inv}
-use Rattle.table.specs.declared.Fault.TheVariants.{Clear}
-use Rattle.table.specs.Sheet.{table_fault, is_clear, asks}
-use Rattle.table.proofs.Whole.{is-clear}
+use Rattle.table.specs.Sheet.{table_fault, by_fault, asks}
+use Rattle.table.specs.declared.Fault.{Fault}
 use Rattle.netlist.specs.Record.{records}
 use Rattle.values.specs.Eval.{eval_words}
 use Rattle.visits.specs.Flow.{Core, Low, root_step, lower_to}
@@ -18,7 +18,7 @@ use Rattle.visits.specs.Claims.{Is, Lowered, Small}
 use Rattle.visits.proofs.Later.{Sound, sound-later, visit-later}
 use Rattle.visits.proofs.Roots.{start-sound}
 use Rattle.lowering.specs.declared.lower.Answer.{Answer}
-use Rattle.lowering.specs.declared.lower.Answer.TheVariants.{Done}
+use Rattle.lowering.specs.declared.lower.Answer.TheVariants.{Done, Table}
 use Rattle.nodes.specs.Source.{Source, total_of, gates_of}
 use Rattle.nodes.specs.Own.{own_step}
 use Rattle.nodes.specs.Recipe.{recipe}
@@ -50,7 +50,7 @@ module _ (S : Source) (g c m : List ℕ) (n k : ℕ) where
   finished-end a e =
       record { accepted = a; count = ap (λ (x : Answer). (counts_of x).gates) e; asks = ap (λ (x : Answer). (counts_of x).constraints) e; gates = refl; cons = refl; map = refl }
 
-  finished-clear : table_fault S.table S.addrs S.word ≡ Clear → asks S.table ≡ true → Ends (lower_clear S g c m)
+  finished-clear : table_fault S.table S.addrs S.word ≡ Ok tt → asks S.table ≡ true → Ends (lower_clear S g c m)
   unfolding lower_clear
   finished-clear clear asked =
       by-pick Ends (ltb (records g) (sums S).gates) _ _ (λ _ e. clash (sym (ap (λ (x : Answer). (counts_of x).done) e)))
@@ -64,14 +64,17 @@ module _ (S : Source) (g c m : List ℕ) (n k : ℕ) where
         constraints = ltb-false (con_records c) (sums S).constraints d;
       }))))
 
-  finished-asked : table_fault S.table S.addrs S.word ≡ Clear → Ends (lower_asked S g c m)
+  finished-asked : table_fault S.table S.addrs S.word ≡ Ok tt → Ends (lower_asked S g c m)
   unfolding lower_asked
   finished-asked clear = by-pick Ends (asks S.table) _ _ (finished-clear clear) (λ _ e. clash (sym (ap (λ (x : Answer). (counts_of x).done) e)))
 
+  finished-checked : (r : Result Unit Fault) → r ≡ table_fault S.table S.addrs S.word → Ends (by_fault r (lower_asked S g c m) (λ f. run (Table f) g c m))
+  finished-checked (Ok u) h e = finished-asked (sym h) e
+  finished-checked (Err f) h e = clash (sym (ap (λ (x : Answer). (counts_of x).done) e))
+
   pub finished : Ends (lower_all S g c m)
   unfolding lower_all
-  finished =
-      by-pick Ends (is_clear (table_fault S.table S.addrs S.word)) _ _ (λ h. finished-asked (is-clear (table_fault S.table S.addrs S.word) (ap (λ (b : Bool). not b) h))) (λ _ e. clash (sym (ap (λ (x : Answer). (counts_of x).done) e)))
+  finished = finished-checked (table_fault S.table S.addrs S.word) refl
 
 -- the map keeps its length
 module _ (S : Source) (g c m : List ℕ) (a : Accepted S g c m) where
@@ -107,7 +110,7 @@ module _ (S : Source) (g c m : List ℕ) (n k : ℕ) (g' c' m' : List ℕ) (a : 
   )
 
 -- each node adds at most its ceiling
-each : (S : Source) → table_fault S.table S.addrs S.word ≡ Clear → (j : ℕ) (s : Core) → Is (recipe S) j → length s.map ≡ total_of S → (own_step S j s).net.n ≤ s.net.n + gates_of S j
+each : (S : Source) → table_fault S.table S.addrs S.word ≡ Ok tt → (j : ℕ) (s : Core) → Is (recipe S) j → length s.map ≡ total_of S → (own_step S j s).net.n ≤ s.net.n + gates_of S j
 each S clear j s is mapped = (own-steps S clear j s is mapped).frame.grows.upto
 
 pub promise : (S : Source) (g c m : List ℕ) (a : Answer) (g' c' m' : List ℕ) → run a g' c' m' ≡ lower_all S g c m → Promise S g c m a g' c' m'

@@ -5,7 +5,6 @@ use Prim.Native.Nat.{ℕ}
 use lib.ListN.{length}
 use borrow.Author.Tests.{le-ltb}
 use Rattle.loops.proofs.Loop.{pick_true, pick-false}
-use Rattle.table.specs.Sheet.{is_clear}
 use Rattle.netlist.specs.Record.{records}
 use Rattle.visits.specs.Claims.{Small}
 use Rattle.visits.proofs.Small as visits
@@ -22,8 +21,8 @@ module _ (S : Source) (g c m : List ℕ) (a : Accepted S g c m) where
   lowers : lower_all S g c m ≡ ended S m (lowered S g c)
   unfolding lower_all lower_asked lower_clear
   lowers =
-      pick_true _ _ _ (ap is_clear a.clear)
-      ∙ (pick_true _ _ _ a.asked
+      rw a.clear
+      (pick_true _ _ _ a.asked
       ∙ (pick-false _ _ _ (le-ltb (records g) (sums S).gates a.gates)
       ∙ (pick-false _ _ _ (le-ltb (length m) (sums S).map a.map)
       ∙ pick-false _ _ _ (le-ltb (con_records c) (sums S).constraints a.constraints))))

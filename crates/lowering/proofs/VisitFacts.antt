@@ -1,4 +1,5 @@
 -- What the proof of the visits cites: which state they go on from, and what one node's visits make of it.
+use Rattle.std.specs.Prelude.{Ok}
 use mathlib.Core.Path.{◌≡◌, ap, sym, ◌∙◌, subst}
 use mathlib.Core.List.{List}
 use mathlib.Core.Bool.{◌&&◌}
@@ -8,7 +9,6 @@ use lib.Dec.{eqb}
 use lib.ListN.{length, get_or, set, length-set}
 use Rattle.loops.specs.Loop.{pick}
 use Rattle.table.specs.declared.Node.{Node}
-use Rattle.table.specs.declared.Fault.TheVariants.{Clear}
 use Rattle.table.specs.Kind.{ITE}
 use Rattle.table.specs.Node.{nodes}
 use Rattle.table.specs.Sheet.{table_fault}
@@ -29,7 +29,7 @@ use Rattle.nodes.proofs.Owed.{reads_owed, writes-owed}
 use Rattle.nodes.proofs.Facts.{cond-asks, second-path, third-path}
 
 -- the law of every own step, with nothing left to owe
-pub own-steps : (S : Source) → table_fault S.table S.addrs S.word ≡ Clear → OwnLaw (recipe S)
+pub own-steps : (S : Source) → table_fault S.table S.addrs S.word ≡ Ok tt → OwnLaw (recipe S)
 own-steps S clear = own-law S clear (reads_owed S clear) (writes-owed S clear)
 
 pub goes-less : {S : Source} {o : List ℕ} {e f : ℕ} {s : Low} → Goes S o e f s → Goes S o 0 0 s

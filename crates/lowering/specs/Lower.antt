@@ -1,11 +1,10 @@
 -- The lowering: refusals 1 to 6, then 14, then 7, 8, 9; on success gates, constraints and bit map.
-use Rattle.std.specs.Prelude.{◌≡◌, List, ◌++◌, Bool, true, false, ℕ, ◌+◌, ◌/◌, ◌≤◌, ltb, length, drop, replicate}
+use Rattle.std.specs.Prelude.{◌≡◌, List, ◌++◌, Bool, true, false, ℕ, ◌+◌, ◌/◌, ◌≤◌, ltb, length, drop, replicate, Ok, Err}
 use Rattle.loops.specs.Loop.{pick}
 use Rattle.table.specs.Node.{nodes}
 use Rattle.table.specs.declared.Sums.{Sums}
-use Rattle.table.specs.declared.Fault.TheVariants.{Clear}
 use Rattle.table.specs.Sheet as sheet
-use Rattle.table.specs.Sheet.{table_fault, is_clear, asks}
+use Rattle.table.specs.Sheet.{table_fault, by_fault, asks}
 use Rattle.table.specs.Ceiling.{sums_of}
 use Rattle.netlist.specs.Record.{gate, put, records}
 use Rattle.visits.specs.Flow.{Low, lower_to}
@@ -18,7 +17,7 @@ use Rattle.nodes.specs.Recipe.{recipe}
 -- the sheet's number of an answer, and the node beside it; 0 is no refusal
 abbrev pub number : Answer → ℕ
 number (Done g c) = 0
-number (Table f) = sheet.number f
+number (Table f) = sheet.number (Err f)
 number NothingAsked = 14
 number GateRoom = 7
 number BitRoom = 8
@@ -26,7 +25,7 @@ number ConstraintRoom = 9
 
 abbrev pub node : Answer → ℕ
 node (Done g c) = 0
-node (Table f) = sheet.node f
+node (Table f) = sheet.node (Err f)
 node NothingAsked = 0
 node GateRoom = 0
 node BitRoom = 0
@@ -102,9 +101,7 @@ lower_asked S g c m = pick (asks S.table) (lower_clear S g c m) (run NothingAske
 
 -- 1 to 6 first; no refusal changes anything
 unfoldable pub lower_all : Source → List ℕ → List ℕ → List ℕ → Run
-lower_all S g c m =
-    pick (is_clear (table_fault S.table S.addrs S.word)) (lower_asked S g c m)
-    (run (Table (table_fault S.table S.addrs S.word)) g c m)
+lower_all S g c m = by_fault (table_fault S.table S.addrs S.word) (lower_asked S g c m) (λ f. run (Table f) g c m)
 
 -- the lent marks after an answer: where nodes were visited, 1 at each that was reached
 unfoldable pub marked : Source → List ℕ → List ℕ → List ℕ → Answer → List ℕ
@@ -117,7 +114,7 @@ marked S g c z ConstraintRoom = z
 
 -- a table is accepted and asks something, and the lent buffers have room for the sums
 pub record Accepted (S : Source) (g c m : List ℕ) : Type 0 where
-  pub clear : table_fault S.table S.addrs S.word ≡ Clear
+  pub clear : table_fault S.table S.addrs S.word ≡ Ok tt
   pub asked : asks S.table ≡ true
   pub gates : (sums S).gates ≤ records g
   pub map : (sums S).map ≤ length m

@@ -1,8 +1,6 @@
 -- What the entry point promises: its answer and the lent buffers, and with them the demands 2 and 3.
-use Rattle.std.specs.Prelude.{◌≡◌, List, [], ℕ, ◌+◌, ◌≤◌, length, take}
-use Rattle.table.specs.declared.Fault.TheVariants.{Clear}
+use Rattle.std.specs.Prelude.{◌≡◌, List, [], ℕ, ◌+◌, ◌≤◌, length, take, Ok}
 use Rattle.table.specs.Sheet.{table_fault}
-use Rattle.values.specs.declared.Answer.TheVariants as words
 use Rattle.values.specs.Eval.{eval_words}
 use Rattle.visits.specs.Flow.{Core, Low}
 use Rattle.visits.specs.Claims.{Is, Lowered, Small}
@@ -22,7 +20,7 @@ said S g c m n k z =
 -- demand 2: for all given slots that the word evaluator takes exactly one assignment meets the constraints, and under it all reached bits are right
 abbrev pub Right : Source → Low → Type 0
 Right S t =
-    (v : List ℕ) → (eval_words S.table S.addrs S.word v).answer ≡ words.Done
+    (v : List ℕ) → (eval_words S.table S.addrs S.word v).answer ≡ Ok tt
     → Lowered (recipe S) (meaning S (eval_words S.table S.addrs S.word v).values) t
 
 -- demand 3: what is made is small, with the reached nodes marked; an accepted table that asks something, with room, is not refused; and each node adds
@@ -30,7 +28,7 @@ Right S t =
 pub record Bounded (S : Source) (g c m : List ℕ) (a : Answer) (g' c' m' : List ℕ) : Type 0 where
   pub made : (n k : ℕ) → a ≡ Done n k → (z : List ℕ) × Small (recipe S) (start S g c) (said S g' c' m' n k z)
   pub done : Accepted S g c m → number a ≡ 0
-  pub each : table_fault S.table S.addrs S.word ≡ Clear → (j : ℕ) (s : Core) → Is (recipe S) j → length s.map ≡ total_of S → (own_step S j s).net.n ≤ s.net.n + gates_of S j
+  pub each : table_fault S.table S.addrs S.word ≡ Ok tt → (j : ℕ) (s : Core) → Is (recipe S) j → length s.map ≡ total_of S → (own_step S j s).net.n ≤ s.net.n + gates_of S j
 
 pub record Promise (S : Source) (g c m : List ℕ) (a : Answer) (g' c' m' : List ℕ) : Type 0 where
   pub answer : run a g' c' m' ≡ lower_all S g c m

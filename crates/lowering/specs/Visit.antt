@@ -1,6 +1,5 @@
 -- What the visits ask for, and what they answer.
-use Rattle.std.specs.Prelude.{◌≡◌, List, ℕ, ◌+◌, ◌≤◌, ◌<◌, length}
-use Rattle.table.specs.declared.Fault.TheVariants.{Clear}
+use Rattle.std.specs.Prelude.{◌≡◌, List, ℕ, ◌+◌, ◌≤◌, ◌<◌, length, Ok}
 use Rattle.table.specs.declared.Unit.TheVariants.{Bit}
 use Rattle.table.specs.Node.{nodes}
 use Rattle.table.specs.Sheet.{table_fault}
@@ -21,7 +20,7 @@ low_of g c m z p = record { core = core_of g c m p; seen = z }
 
 -- a table without fault, over a state with room for e gates, for f constraints, and for the ceilings of all nodes not seen
 pub record Goes (S : Source) (o : List ℕ) (e f : ℕ) (s : Low) : Type 0 where
-  pub clear : table_fault S.table S.addrs S.word ≡ Clear
+  pub clear : table_fault S.table S.addrs S.word ≡ Ok tt
   pub offsets : Offsets Bit S.table (listed S) S.word o
   pub mapped : length s.core.map ≡ total_of S
   pub marked : length s.seen ≡ nodes S.table + 1
@@ -31,7 +30,7 @@ pub record Goes (S : Source) (o : List ℕ) (e f : ℕ) (s : Low) : Type 0 where
 
 -- where a lowering begins: room for the sums, a place in the map for each bit and a mark for each node
 pub record Begins (S : Source) (o g c m z : List ℕ) : Type 0 where
-  pub clear : table_fault S.table S.addrs S.word ≡ Clear
+  pub clear : table_fault S.table S.addrs S.word ≡ Ok tt
   pub offsets : Offsets Bit S.table (listed S) S.word o
   pub gates : (sums S).gates ≤ records g
   pub constraints : (sums S).constraints ≤ con_records c

@@ -1,6 +1,5 @@
 // The lowering of any table: refusals 1 to 6, then 14, then 7, 8, 9; on success gates, constraints and bit map.
-ghost use Rattle.std.specs.Prelude.{◌≡◌, true, ◌≤◌, length};
-ghost use Rattle.table.specs.declared.Fault.TheVariants as fault;
+ghost use Rattle.std.specs.Prelude.{◌≡◌, true, ◌≤◌, length, Ok};
 ghost use Rattle.table.specs.Sheet.{table_fault, asks};
 ghost use Rattle.nodes.specs.Source.{source};
 ghost use Rattle.lowering.specs.Lower as spec;
@@ -28,7 +27,7 @@ pub fn number(a: Answer) -> u64
 {
     match a {
         Answer::Done { .. } => 0,
-        Answer::Table(f) => table::sheet::number(f),
+        Answer::Table(f) => f.number(),
         Answer::NothingAsked => 14,
         Answer::GateRoom => 7,
         Answer::BitRoom => 8,
@@ -42,7 +41,7 @@ pub fn node(a: Answer) -> usize
 {
     match a {
         Answer::Done { .. } => 0,
-        Answer::Table(f) => table::sheet::node(f),
+        Answer::Table(f) => f.node(),
         Answer::NothingAsked => 0,
         Answer::GateRoom => 0,
         Answer::BitRoom => 0,
@@ -145,7 +144,7 @@ fn lower_clear(
     map: &mut [u32],
     marks: &mut [u8],
 ) -> Answer
-    requires word_value { (table_fault table.now addrs.now word ≡ fault.Clear) × (asks table.now ≡ true) }
+    requires word_value { (table_fault table.now addrs.now word ≡ Ok tt) × (asks table.now ≡ true) }
     requires in_bounds { (514 ≤ length offs.old) × (513 ≤ length marks.old) }
     ensures map_after { run result gates.new constraints.new map.new ≡ lower_clear (source table.now addrs.now word) gates.old constraints.old map.old }
     ensures marks_after { marks.new ≡ marked (source table.now addrs.now word) gates.old constraints.old marks.old result }
@@ -180,10 +179,9 @@ pub fn lower_marked(
     ensures promise { Promise (source table.now addrs.now word) gates.old constraints.old map.old result gates.new constraints.new map.new }
     ensures marks_after { marks.new ≡ marked (source table.now addrs.now word) gates.old constraints.old marks.old result }
 {
-    let f = table::sheet::check_table(table, addrs, word);
-    let sound = table::sheet::clear(f);
+    let checked = table::sheet::check_table(table, addrs, word);
     let asked = table::sheet::asks(table);
-    if !sound {
+    if let Err(f) = checked {
         return Answer::Table(f);
     }
     if !asked {

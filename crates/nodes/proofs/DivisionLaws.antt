@@ -1,4 +1,5 @@
 -- The step of a division, from its law.
+use Rattle.std.specs.Prelude.{Ok}
 use mathlib.Core.Path.{◌≡◌, refl, ap, sym, ◌∙◌, subst}
 use mathlib.Core.List.{List}
 use mathlib.Core.Logic.{inl, inr}
@@ -11,7 +12,6 @@ use lib.ListN.{length, get_or}
 use borrow.Author.Tests.{eqb-true}
 use Rattle.loops.proofs.Loop.{either}
 use Rattle.table.specs.declared.Node.{Node}
-use Rattle.table.specs.declared.Fault.TheVariants.{Clear}
 use Rattle.table.specs.Kind.{DIVU, REM, divides}
 use Rattle.table.specs.Node.{width_of}
 use Rattle.table.specs.Ceiling.{ceiling, div_gates, div_constraints}
@@ -77,7 +77,7 @@ same-before l t n h i lt = go (dec_lt (2 * (i / 2)) i)
     go (yes q) = let e : i ≡ 2 * (i / 2) + 1 = omega arith in rw e (h (i / 2) (omega arith)).1
     go (no q) = let e : i ≡ 2 * (i / 2) = omega arith in rw e (h (i / 2) (omega arith)).0
 
-module _ (S : Source) (clear : table_fault S.table S.addrs S.word ≡ Clear) (k : ℕ) (is : Is (recipe S) k) (s : Core)
+module _ (S : Source) (clear : table_fault S.table S.addrs S.word ≡ Ok tt) (k : ℕ) (is : Is (recipe S) k) (s : Core)
     (mapped : length s.map ≡ total_of S)
     (h : divides (node_of S k).kind ≡ true) (v : Even (node_of S k).width (width_of S.table (node_of S k).a) (width_of S.table (node_of S k).b)) where
   abbrev w : ℕ

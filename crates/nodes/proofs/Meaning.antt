@@ -1,4 +1,5 @@
 -- A table's values and its nodes' bits: a word's bits say its slot exactly if each is the value's digit.
+use Rattle.std.specs.Prelude.{Ok}
 use mathlib.Core.Path.{◌≡◌, refl, ap, ap₂, sym, ◌∙◌}
 use mathlib.Core.List.{List}
 use mathlib.Core.Bool.{false}
@@ -8,7 +9,6 @@ use native.Mathlib.Nat.{mul-add-div_right, mul-add-mod_self_right, div-eq_of_lt,
 use lib.ListN.{get_or}
 use Rattle.table.specs.Node.{nodes, width_of, given}
 use Rattle.table.specs.Size.{node_size}
-use Rattle.values.specs.declared.Answer.TheVariants.{Done}
 use Rattle.values.specs.Value.{slot_value}
 use Rattle.values.specs.Eval.{slots, slot_width, eval_words}
 use Rattle.values.specs.Frame.{Valued, InRange}
@@ -63,7 +63,7 @@ evaluated S v x clear valued range =
     ranged n k q i h l = rw (q, width-wide S k) at (range n i h (rw (slots-words S n, q) l))
 
 -- what the word evaluator answers with Done
-pub done-evaluated : (S : Source) (v : List ℕ) → (eval_words S.table S.addrs S.word v).answer ≡ Done → Evaluated S (eval_words S.table S.addrs S.word v).values
+pub done-evaluated : (S : Source) (v : List ℕ) → (eval_words S.table S.addrs S.word v).answer ≡ Ok tt → Evaluated S (eval_words S.table S.addrs S.word v).values
 done-evaluated S v e =
     evaluated S v (eval_words S.table S.addrs S.word v).values (finished S.table S.addrs S.word v e).clear
     (done-right S.table S.addrs S.word v e)

@@ -1,4 +1,5 @@
 -- Where a node's words stand in the bit map, and where among the evaluator's slots.
+use Rattle.std.specs.Prelude.{Ok}
 use mathlib.Core.Path.{◌≡◌, refl, ap, ◌∙◌}
 use mathlib.Core.List.{List}
 use mathlib.Core.Bool.{Bool, true, false}
@@ -8,7 +9,6 @@ use lib.Dec.{eqb}
 use lib.ListN.{get_or, drop}
 use lib.Seq.{get_or-take, get_or-drop}
 use Rattle.loops.specs.Loop.{pick}
-use Rattle.table.specs.declared.Fault.TheVariants.{Clear}
 use Rattle.table.specs.Node.{width_of}
 use Rattle.table.specs.Sheet.{table_fault}
 use Rattle.table.proofs.Whole.{address-small, distinct, within, fine}
@@ -17,7 +17,7 @@ use Rattle.nodes.specs.Source.{Source, listed, wide_of, off_of, word_at}
 
 -- a table without fault
 abbrev pub Sheeted : Source → Type 0
-Sheeted S = table_fault S.table S.addrs S.word ≡ Clear
+Sheeted S = table_fault S.table S.addrs S.word ≡ Ok tt
 
 -- bit j of word i of a node stands at its place in the map
 pub word-bit : (S : Source) (m : List ℕ) (x i j : ℕ) → j < wide_of S x → get_or (word_at S m x i) j 0 ≡ get_or m (off_of S x + (i * wide_of S x + j)) 0

@@ -1,11 +1,11 @@
 -- The steps of a read and a write, from the laws of both.
+use Rattle.std.specs.Prelude.{Ok}
 use mathlib.Core.Path.{◌≡◌, refl, ap, sym, ◌∙◌}
 use mathlib.Core.List.{List}
 use mathlib.Core.Bool.{false}
 use Prim.Native.Nat.{ℕ, ◌+◌, ◌-◌, ◌*◌, ◌≤◌, ◌<◌}
 use native.Mathlib.Omega.{arith}
 use lib.ListN.{length, get_or, length-take, length-drop}
-use Rattle.table.specs.declared.Fault.TheVariants.{Clear}
 use Rattle.table.specs.Kind.{READ, WRITE}
 use Rattle.table.specs.Node.{width_of}
 use Rattle.table.specs.Ceiling.{memory_gates}
@@ -56,7 +56,7 @@ module _ (S : Source) (k : ℕ) (low : 1 ≤ k) where
   unfolding memory_gates
   write-gates e = gates-of S k low ∙ top-write (listed S) S.word (node_of S k) (width_of S.table (node_of S k).a) e
 
-module _ (S : Source) (clear : table_fault S.table S.addrs S.word ≡ Clear) (k : ℕ) (is : Is (recipe S) k) (s : Core)
+module _ (S : Source) (clear : table_fault S.table S.addrs S.word ≡ Ok tt) (k : ℕ) (is : Is (recipe S) k) (s : Core)
     (mapped : length s.map ≡ total_of S) where
   abbrev A : ℕ
   A = (node_of S k).a

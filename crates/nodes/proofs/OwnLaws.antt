@@ -1,4 +1,5 @@
 -- The law of a node's own step, by the line of the sorts under which the node stands.
+use Rattle.std.specs.Prelude.{Ok}
 use mathlib.Core.Path.{◌≡◌, refl, sym, ◌∙◌}
 use mathlib.Core.Logic.{◌⊎◌, inl, inr}
 use mathlib.Core.Bool.{true}
@@ -9,7 +10,6 @@ use lib.ListN.{length}
 use borrow.Author.Tests.{eqb-true, eqb-false}
 use Rattle.loops.specs.Loop.{pick}
 use Rattle.loops.proofs.Loop.{by-pick}
-use Rattle.table.specs.declared.Fault.TheVariants.{Clear}
 use Rattle.table.specs.Kind.{STATE, SEXT, uses_a}
 use Rattle.table.specs.Op.{op_kind}
 use Rattle.digits.specs.Op.{Op}
@@ -32,7 +32,7 @@ use Rattle.nodes.proofs.ShareLaws.{same-words, input-step, share-step, ite-step}
 use Rattle.nodes.proofs.MemoryLaws.{ReadsOwed, WritesOwed, read-step, write_step_lem}
 use Rattle.nodes.proofs.DivisionLaws.{divide-step}
 
-module _ (S : Source) (clear : table_fault S.table S.addrs S.word ≡ Clear) (reads : ReadsOwed S) (writes : WritesOwed S) where
+module _ (S : Source) (clear : table_fault S.table S.addrs S.word ≡ Ok tt) (reads : ReadsOwed S) (writes : WritesOwed S) where
   module _ (k : ℕ) (is : Is (recipe S) k) (s : Core) (mapped : length s.map ≡ total_of S) where
     node : Sound S.table S.word k
     node = sound-of S clear k is

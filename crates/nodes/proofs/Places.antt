@@ -1,4 +1,5 @@
 -- Where a node's words stand in the bit map, how wide they are, and what their node's ceilings are.
+use Rattle.std.specs.Prelude.{Ok}
 use mathlib.Core.Path.{◌≡◌, refl, ◌∙◌}
 use mathlib.Core.List.{List}
 use mathlib.Core.Bool.{Bool, true, false}
@@ -13,7 +14,6 @@ use borrow.Author.Tests.{eq-eqb, ne_eqb}
 use Rattle.loops.specs.Loop.{pick}
 use Rattle.loops.proofs.Loop.{pick_true, pick-false}
 use Rattle.table.specs.declared.Unit.TheVariants.{Bit}
-use Rattle.table.specs.declared.Fault.TheVariants.{Clear}
 use Rattle.table.specs.Node.{nodes, width_of}
 use Rattle.table.specs.Size.{size_of, node_size}
 use Rattle.table.specs.Ceiling.{ceiling, constraint_ceiling, node_gates, node_constraints}
@@ -96,7 +96,7 @@ module _ (S : Source) where
       rw e at p
 
 -- what a table without fault tells of the node k
-pub sound-of : (S : Source) → table_fault S.table S.addrs S.word ≡ Clear → (k : ℕ) → Is (recipe S) k → Sound S.table S.word k
+pub sound-of : (S : Source) → table_fault S.table S.addrs S.word ≡ Ok tt → (k : ℕ) → Is (recipe S) k → Sound S.table S.word k
 sound-of S clear k is =
     let e : k - 1 + 1 ≡ k = omega (arith, is.low) in
     rw e at (each-sound S.table S.addrs S.word clear (k - 1) (omega (arith, is.low, is.high)))

@@ -1,4 +1,5 @@
 -- The recipe of a table without fault has the shape that the visits ask.
+use Rattle.std.specs.Prelude.{Ok}
 use mathlib.Core.Path.{◌≡◌, refl, ap, sym, ◌∙◌}
 use mathlib.Core.List.{List}
 use mathlib.Core.Bool.{Bool, true, false, ◌&&◌, false≢true}
@@ -10,7 +11,6 @@ use borrow.Author.Tests.{eqb-true, eqb-false, ne_eqb}
 use Rattle.loops.specs.Loop.{pick}
 use Rattle.loops.proofs.Loop.{by-pick, either}
 use Rattle.table.specs.declared.Node.{Node}
-use Rattle.table.specs.declared.Fault.TheVariants.{Clear}
 use Rattle.table.specs.Kind.{ITE, DIVU, REM, divides, uses_b}
 use Rattle.table.specs.Node.{width_of}
 use Rattle.table.specs.Sheet.{table_fault}
@@ -73,7 +73,7 @@ word_same S m t x some word same j l =
     let q : j < bits_of S x = omega (arith, bits-words S x some, ap (λ (n : ℕ). n * wide_of S x) (word-words S x word)) in
     rw (part_at t (off_of S x + 0 * wide_of S x) (wide_of S x) j l, part_at m (off_of S x + 0 * wide_of S x) (wide_of S x) j l, e) (same j q)
 
-module _ (S : Source) (clear : table_fault S.table S.addrs S.word ≡ Clear) where
+module _ (S : Source) (clear : table_fault S.table S.addrs S.word ≡ Ok tt) where
   module _ (m t : List ℕ) (k : ℕ) (is : Is (recipe S) k) where
     cond_same : (node_of S k).kind ≡ ITE → Same (recipe S) m t (first_of S k) → condition_of S t k ≡ condition_of S m k
     cond_same h same =

@@ -1,4 +1,5 @@
 -- The steps of the kinds that take words or memories: inputs, shared bits, and choices.
+use Rattle.std.specs.Prelude.{Ok}
 use mathlib.Core.Path.{◌≡◌, refl, ap, sym, ◌∙◌}
 use mathlib.Core.List.{List}
 use mathlib.Core.Bool.{Bool, true, false, ◌&&◌, false≢true}
@@ -9,7 +10,6 @@ use lib.ListN.{length, get_or}
 use borrow.Author.Tests.{ne_eqb}
 use Rattle.loops.specs.Loop.{pick}
 use Rattle.loops.proofs.Loop.{by-pick, pick-false}
-use Rattle.table.specs.declared.Fault.TheVariants.{Clear}
 use Rattle.table.specs.Kind.{ITE}
 use Rattle.table.specs.Node.{width_of, given}
 use Rattle.table.specs.Ceiling.{ite_gates}
@@ -56,7 +56,7 @@ module _ (S : Source) (m : List ℕ) (k : ℕ) (unknown : is_known (condition_of
       go true = pick-false _ _ _ unknown
       go false = pick-false _ _ _ refl
 
-module _ (S : Source) (clear : table_fault S.table S.addrs S.word ≡ Clear) (k : ℕ) (is : Is (recipe S) k) (s : Core)
+module _ (S : Source) (clear : table_fault S.table S.addrs S.word ≡ Ok tt) (k : ℕ) (is : Is (recipe S) k) (s : Core)
     (mapped : length s.map ≡ total_of S) where
   -- an input or an uninitialised state
   input-word : given (node_of S k) ≡ true → (i : ℕ) (x : Core) → WordOwes S k s x (wide_of S k) (input_word S k i x)

@@ -1,4 +1,5 @@
 -- The step of a node, kind by kind: from the laws of its words, with its operands' bits taken out of the map.
+use Rattle.std.specs.Prelude.{Ok}
 use mathlib.Core.Path.{◌≡◌, refl, ap, sym, ◌∙◌}
 use mathlib.Core.List.{List}
 use mathlib.Core.Bool.{true, not, ◌&&◌}
@@ -9,7 +10,6 @@ use lib.ListN.{length}
 use borrow.Author.Tests.{eqb-true, eqb-false, le-leb, leb-true}
 use Rattle.loops.specs.Loop.{pick}
 use Rattle.loops.proofs.Loop.{by-pick, both, either}
-use Rattle.table.specs.declared.Fault.TheVariants.{Clear}
 use Rattle.table.specs.Kind.{CONST, NOT, AND, EQ, ITE, SEXT, uses_a, uses_b, uses_c}
 use Rattle.table.specs.Op.{op_kind}
 use Rattle.table.specs.Node.{width_of}
@@ -45,7 +45,7 @@ made_as {s} {In} {y} {v} {w} {c} {d} e le h =
     }
 
 -- no word is wider than 64
-pub wide-small : (S : Source) → table_fault S.table S.addrs S.word ≡ Clear → (x : ℕ) → wide_of S x ≤ 64
+pub wide-small : (S : Source) → table_fault S.table S.addrs S.word ≡ Ok tt → (x : ℕ) → wide_of S x ≤ 64
 unfolding wide_of
 wide-small S clear x =
     by-pick (λ v. v ≤ 64) (eqb (width_of S.table x) 0) S.word (width_of S.table x)
@@ -70,7 +70,7 @@ two-one k h =
     (λ e. le-leb NOT k (omega (arith, leb-true EQ k (both (leb EQ k) (not (eqb k SEXT)) e).0)))
     h
 
-module _ (S : Source) (clear : table_fault S.table S.addrs S.word ≡ Clear) (k : ℕ) (is : Is (recipe S) k) (s : Core)
+module _ (S : Source) (clear : table_fault S.table S.addrs S.word ≡ Ok tt) (k : ℕ) (is : Is (recipe S) k) (s : Core)
     (mapped : length s.map ≡ total_of S) where
   pub node : Sound S.table S.word k
   node = sound-of S clear k is

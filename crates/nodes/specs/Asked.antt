@@ -1,10 +1,9 @@
 -- What the functions that make a node's own step ask for, and what they answer for a part of the state.
-use Rattle.std.specs.Prelude.{◌≡◌, List, false, ℕ, ◌+◌, ◌≤◌, ◌<◌, eqb, length}
+use Rattle.std.specs.Prelude.{◌≡◌, List, false, ℕ, ◌+◌, ◌≤◌, ◌<◌, eqb, length, Ok}
 use Rattle.loops.specs.Loop.{pick}
 use Rattle.table.specs.declared.Node.{Node}
 use Rattle.table.specs.Kind.{NOT, ITE, READ, WRITE, divides}
 use Rattle.table.specs.Node.{given}
-use Rattle.table.specs.declared.Fault.TheVariants.{Clear}
 use Rattle.table.specs.declared.Unit.TheVariants.{Bit}
 use Rattle.table.specs.Sheet.{table_fault}
 use Rattle.table.specs.Size.{Offsets}
@@ -23,7 +22,7 @@ use Rattle.nodes.specs.Recipe.{recipe}
 
 -- node k of a table without fault, its offsets worked out, over a map of `long` places
 pub record Stands (S : Source) (o : List ℕ) (long k : ℕ) : Type 0 where
-  pub clear : table_fault S.table S.addrs S.word ≡ Clear
+  pub clear : table_fault S.table S.addrs S.word ≡ Ok tt
   pub is : Is (recipe S) k
   pub offsets : Offsets Bit S.table (listed S) S.word o
   pub mapped : long ≡ total_of S

@@ -2,3 +2,4 @@ pub mod Ops
 pub mod Whole
 pub mod Unique
 pub mod Small
+pub mod Any

@@ -1,6 +1,7 @@
 -- No freedom: any two answers that a contract permits for one input are equal, and with them the number and the node of a refusal.
 use mathlib.Core.Path.{◌≡◌, ap, sym, ◌∙◌}
 use mathlib.Core.List.{List}
+use Rattle.std.specs.Prelude.{Result, ⊤}
 use mathlib.Core.Bool.{Bool}
 use Prim.Native.Nat.{ℕ}
 use lib.ListN.{length}
@@ -13,7 +14,7 @@ use Rattle.table.specs.Ceiling.{sums_of}
 
 module _ (t l : List ℕ) (w : ℕ) where
   -- check_table
-  pub one-fault : (r s : Fault) → r ≡ table_fault t l w → s ≡ table_fault t l w → (r ≡ s) × (number r ≡ number s) × (node r ≡ node s)
+  pub one-fault : (r s : Result ⊤ Fault) → r ≡ table_fault t l w → s ≡ table_fault t l w → (r ≡ s) × (number r ≡ number s) × (node r ≡ node s)
   one-fault r s p q = let e : r ≡ s = p ∙ sym q in (e, ap number e, ap node e)
 
   -- sums

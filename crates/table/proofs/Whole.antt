@@ -1,6 +1,7 @@
 -- What a table without fault tells: of the whole, of each node's operands, and under which line of the sorts each node stands.
 use mathlib.Core.Path.{◌≡◌, refl, ap, sym, ◌∙◌}
 use mathlib.Core.List.{List}
+use Rattle.std.specs.Prelude.{Result, Ok, Err}
 use mathlib.Core.Logic.{◌⊎◌, inl, inr}
 use mathlib.Core.Bool.{Bool, true, false, not, ◌&&◌, ◌||◌, false≢true}
 use Prim.Native.Nat.{ℕ, zero, suc, ◌+◌, ◌%◌, ◌^◌, ◌≤◌, ◌<◌}
@@ -14,28 +15,24 @@ use Rattle.loops.specs.Loop.{pick, first}
 use Rattle.loops.proofs.Loop.{first-true, first_below, first_found, first-le, pick_true, both, either}
 use Rattle.digits.specs.Op.{Op, op_not, op_and, op_or, op_eq, op_add, op_sub, op_ult, op_mul, op_sll, op_srl, op_two, op_one, op_wide}
 use Rattle.table.specs.declared.Fault.{Fault}
-use Rattle.table.specs.declared.Fault.TheVariants.{Clear, Size, Address, Kind, NotLowered, Operand, Sort}
+use Rattle.table.specs.declared.Fault.TheVariants.{Size, Address, Kind, NotLowered, Operand, Sort}
 use Rattle.table.specs.declared.Node.{Node}
 use Rattle.table.specs.Kind.{CONST, INPUT, STATE, NOT, BAD, AND, EXT, EQ, ADD, ITE, SUB, ULT, MUL, DIVU, REM, READ, WRITE, OR, SLL, SRL, SEXT, named, lowered, may_use_a, uses_a, uses_b, uses_c, uses_imm, evenly, extends, compares}
 use Rattle.table.specs.Op.{op_kind}
 use Rattle.table.specs.Node.{field_at, nodes, node_at, kind_of, width_of, a_of, b_of, c_of, Narrow, Fine}
 use Rattle.table.specs.Sheet.{is_clear, size_good, is_at, address_bad, addresses_bad, operand, operands_good, sort_good, sorts_good, fault_of, node_fault, node_bad, nodes_fault, table_fault, asks_at, asks}
 use Rattle.table.proofs.field.Laws.{field_out}
+use Rattle.table.proofs.sheet.Laws.{faulty}
 
 -- a test that stands before a fault was passed
-past : (g : Bool) (x y : Fault) → is_clear x ≡ false → pick (not g) x y ≡ Clear → (g ≡ true) × (y ≡ Clear)
+past : (g : Bool) (f : Fault) (y : Result Unit Fault) → pick (not g) (Err f) y ≡ Ok tt → (g ≡ true) × (y ≡ Ok tt)
 unfolding pick
-past true x y n e = (refl, e)
-past false x y n e = absurd (let z : ◌≡◌ {A = ℕ} 0 1 = cc (ap is_clear e) in omega arith)
+past true f y e = (refl, e)
+past false f y e = absurd cc
 
-pub is-clear : (f : Fault) → not (is_clear f) ≡ false → f ≡ Clear
-is-clear Clear e = refl
-is-clear Size e = absurd (let z : ◌≡◌ {A = ℕ} 0 1 = cc in omega arith)
-is-clear Address e = absurd (let z : ◌≡◌ {A = ℕ} 0 1 = cc in omega arith)
-is-clear (Kind i) e = absurd (let z : ◌≡◌ {A = ℕ} 0 1 = cc in omega arith)
-is-clear (NotLowered i) e = absurd (let z : ◌≡◌ {A = ℕ} 0 1 = cc in omega arith)
-is-clear (Operand i) e = absurd (let z : ◌≡◌ {A = ℕ} 0 1 = cc in omega arith)
-is-clear (Sort i) e = absurd (let z : ◌≡◌ {A = ℕ} 0 1 = cc in omega arith)
+pub is-clear : (r : Result Unit Fault) → not (is_clear r) ≡ false → r ≡ Ok tt
+is-clear (Ok u) e = refl
+is-clear (Err f) e = absurd (false≢true (sym e ∙ ap not (faulty f)))
 
 -- an operand is a node before its user, or none where none must be
 pub record Operands (i : ℕ) (d : Node) : Type 0 where
@@ -217,14 +214,14 @@ pub record Sound (t : List ℕ) (w i : ℕ) : Type 0 where
   pub operands : Operands i (node_at t i)
   pub sort : Rule w (node_at t i) (width_of t (a_of t i)) (width_of t (b_of t i)) (width_of t (c_of t i))
 
-sound : (t : List ℕ) (w i : ℕ) → 1 ≤ i → node_fault t w i ≡ Clear → Sound t w i
+sound : (t : List ℕ) (w i : ℕ) → 1 ≤ i → node_fault t w i ≡ Ok tt → Sound t w i
 unfolding node_fault fault_of sorts_good
 sound t w i h e =
     let k : ℕ = kind_of t i in
-    let p = past (named k) (Kind i) _ refl e in
-    let q = past (lowered k) (NotLowered i) _ refl p.1 in
-    let r = past (operands_good i (node_at t i)) (Operand i) _ refl q.1 in
-    let s = past (sorts_good t w (node_at t i)) (Sort i) _ refl r.1 in
+    let p = past (named k) (Kind i) _ e in
+    let q = past (lowered k) (NotLowered i) _ p.1 in
+    let r = past (operands_good i (node_at t i)) (Operand i) _ q.1 in
+    let s = past (sorts_good t w (node_at t i)) (Sort i) _ r.1 in
     let z = rule w (node_at t i) (width_of t (a_of t i)) (width_of t (b_of t i)) (width_of t (c_of t i)) s.0 in
     record {
       narrow = z.0;
@@ -236,16 +233,16 @@ neither : (p q : Bool) → (p || q) ≡ false → (p ≡ false) × (q ≡ false)
 neither true q e = absurd (let z : ◌≡◌ {A = ℕ} 0 1 = cc in omega arith)
 neither false q e = (refl, e)
 
-module _ (t l : List ℕ) (w : ℕ) (e : table_fault t l w ≡ Clear) where
-  sizes : (size_good t l w ≡ true) × (addresses_bad l w ≡ false) × (nodes_fault t w ≡ Clear)
+module _ (t l : List ℕ) (w : ℕ) (e : table_fault t l w ≡ Ok tt) where
+  sizes : (size_good t l w ≡ true) × (addresses_bad l w ≡ false) × (nodes_fault t w ≡ Ok tt)
   unfolding table_fault pick
   sizes =
-      let p = past (size_good t l w) Size _ refl e in
+      let p = past (size_good t l w) Size _ e in
       let q = go (addresses_bad l w) p.1 in
       (p.0, q.0, q.1)
     where
-      go : (b : Bool) → pick b Address (nodes_fault t w) ≡ Clear → (b ≡ false) × (nodes_fault t w ≡ Clear)
-      go true q = absurd (let z : ◌≡◌ {A = ℕ} 0 1 = cc (ap is_clear q) in omega arith)
+      go : (b : Bool) → pick b (Err Address) (nodes_fault t w) ≡ Ok tt → (b ≡ false) × (nodes_fault t w ≡ Ok tt)
+      go true q = absurd cc
       go false q = (refl, q)
 
   -- the counts and W are within their ranges
@@ -293,7 +290,7 @@ module _ (t l : List ℕ) (w : ℕ) (e : table_fault t l w ≡ Clear) where
   none-bad : Dec (first (nodes t) (node_bad t w) < nodes t) → nodes t ≤ first (nodes t) (node_bad t w)
   unfolding nodes_fault node_bad
   none-bad (yes h) =
-      let q : node_fault t w (first (nodes t) (node_bad t w) + 1) ≡ Clear = sym (pick_true _ _ Clear (lt-ltb _ _ h)) ∙ sizes.2 in
+      let q : node_fault t w (first (nodes t) (node_bad t w) + 1) ≡ Ok tt = sym (pick_true _ _ (Ok tt) (lt-ltb _ _ h)) ∙ sizes.2 in
       let r : not (is_clear (node_fault t w (first (nodes t) (node_bad t w) + 1))) ≡ true = first-true (node_bad t w) (nodes t) h in
       absurd (let z : ◌≡◌ {A = ℕ} 0 1 = cc (ap (λ f. not (is_clear f)) q) in omega arith)
   none-bad (no h) = omega arith
@@ -323,8 +320,8 @@ module _ (t l : List ℕ) (w : ℕ) (e : table_fault t l w ≡ Clear) where
         before = λ i h. let q = (each-sound i h).operands in (omega (arith, q.a), omega (arith, q.b), omega (arith, q.c));
       }
 
-pub checked : (t l : List ℕ) (w : ℕ) (f : Fault) (r : Bool) → f ≡ table_fault t l w → r ≡ is_clear f → r ≡ true → Fine t l
-checked t l w f r e c h = fine t l w (sym e ∙ is-clear f (ap not (sym c ∙ h)))
+pub checked : (t l : List ℕ) (w : ℕ) → Ok tt ≡ table_fault t l w → Fine t l
+checked t l w e = fine t l w (sym e)
 
 -- a table asks exactly if one of its nodes is bad
 pub asked : (t : List ℕ) → asks t ≡ true → (i : ℕ) × (i < nodes t) × (kind_of t (i + 1) ≡ BAD)

@@ -1,33 +1,38 @@
 -- The refusal sheet, 1 to 6, and whether a table asks anything.
-use Rattle.std.specs.Prelude.{List, Bool, not, ◌&&◌, ◌||◌, ℕ, ◌+◌, ◌%◌, ◌^◌, eqb, ltb, leb, get_or, length}
+use Rattle.std.specs.Prelude.{List, Bool, not, ◌&&◌, ◌||◌, ℕ, ◌+◌, ◌%◌, ◌^◌, eqb, ltb, leb, get_or, length, Result, Ok, Err}
 use Rattle.loops.specs.Loop.{pick, first}
 use Rattle.table.specs.declared.Fault.{Fault}
-use Rattle.table.specs.declared.Fault.TheVariants.{Clear, Size, Address, Kind, NotLowered, Operand, Sort}
+use Rattle.table.specs.declared.Fault.TheVariants.{Size, Address, Kind, NotLowered, Operand, Sort}
 use Rattle.table.specs.declared.Node.{Node}
 use Rattle.table.specs.Kind.{CONST, INPUT, STATE, NOT, BAD, ITE, READ, WRITE, named, lowered, may_use_a, uses_a, uses_b, uses_c, uses_imm, evenly, extends, compares}
 use Rattle.table.specs.Node.{kind_of, width_of, node_at, nodes}
 
--- the sheet's number of a fault, and the node beside it; 0 is no fault
-abbrev pub number : Fault → ℕ
-number Clear = 0
-number Size = 1
-number Address = 2
-number (Kind i) = 3
-number (NotLowered i) = 4
-number (Operand i) = 5
-number (Sort i) = 6
+-- the sheet's number of a check, and the node beside it; 0 is no fault
+abbrev pub number : Result Unit Fault → ℕ
+number (Ok u) = 0
+number (Err Size) = 1
+number (Err Address) = 2
+number (Err (Kind i)) = 3
+number (Err (NotLowered i)) = 4
+number (Err (Operand i)) = 5
+number (Err (Sort i)) = 6
 
-abbrev pub node : Fault → ℕ
-node Clear = 0
-node Size = 0
-node Address = 0
-node (Kind i) = i
-node (NotLowered i) = i
-node (Operand i) = i
-node (Sort i) = i
+abbrev pub node : Result Unit Fault → ℕ
+node (Ok u) = 0
+node (Err Size) = 0
+node (Err Address) = 0
+node (Err (Kind i)) = i
+node (Err (NotLowered i)) = i
+node (Err (Operand i)) = i
+node (Err (Sort i)) = i
 
-abbrev pub is_clear : Fault → Bool
-is_clear f = eqb (number f) 0
+-- what follows a check: a where there is no fault, else f of the fault
+abbrev pub by_fault : {A : Type 0} → Result Unit Fault → A → (Fault → A) → A
+by_fault (Ok u) a f = a
+by_fault (Err e) a f = f e
+
+abbrev pub is_clear : Result Unit Fault → Bool
+is_clear r = eqb (number r) 0
 
 -- 1 SIZE: length not a multiple of 6, or a count or W outside its range
 unfoldable pub size_good : List ℕ → List ℕ → ℕ → Bool
@@ -79,31 +84,31 @@ unfoldable pub sorts_good : List ℕ → ℕ → Node → Bool
 sorts_good t w d = sort_good w d (width_of t d.a) (width_of t d.b) (width_of t d.c)
 
 -- 3 KIND, 4 NOT LOWERED, 5 and 6 at node i, which is d: the first that applies
-unfoldable pub fault_of : List ℕ → ℕ → ℕ → Node → Fault
+unfoldable pub fault_of : List ℕ → ℕ → ℕ → Node → Result Unit Fault
 fault_of t w i d =
-    pick (not (named d.kind)) (Kind i)
-    (pick (not (lowered d.kind)) (NotLowered i)
-    (pick (not (operands_good i d)) (Operand i)
-    (pick (not (sorts_good t w d)) (Sort i)
-    Clear)))
+    pick (not (named d.kind)) (Err (Kind i))
+    (pick (not (lowered d.kind)) (Err (NotLowered i))
+    (pick (not (operands_good i d)) (Err (Operand i))
+    (pick (not (sorts_good t w d)) (Err (Sort i))
+    (Ok tt))))
 
-unfoldable pub node_fault : List ℕ → ℕ → ℕ → Fault
+unfoldable pub node_fault : List ℕ → ℕ → ℕ → Result Unit Fault
 node_fault t w i = fault_of t w i (node_at t i)
 
 unfoldable pub node_bad : List ℕ → ℕ → ℕ → Bool
 node_bad t w i = not (is_clear (node_fault t w (i + 1)))
 
 -- nodes upwards
-unfoldable pub nodes_fault : List ℕ → ℕ → Fault
+unfoldable pub nodes_fault : List ℕ → ℕ → Result Unit Fault
 nodes_fault t w =
     pick (ltb (first (nodes t) (node_bad t w)) (nodes t)) (node_fault t w (first (nodes t) (node_bad t w) + 1))
-    Clear
+    (Ok tt)
 
 -- 1 and 2 first
-unfoldable pub table_fault : List ℕ → List ℕ → ℕ → Fault
+unfoldable pub table_fault : List ℕ → List ℕ → ℕ → Result Unit Fault
 table_fault t l w =
-    pick (not (size_good t l w)) Size
-    (pick (addresses_bad l w) Address
+    pick (not (size_good t l w)) (Err Size)
+    (pick (addresses_bad l w) (Err Address)
     (nodes_fault t w))
 
 -- a table asks by its bad nodes: one is enough. A record cut off at the end is no node

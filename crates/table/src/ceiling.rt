@@ -1,4 +1,4 @@
-ghost use Rattle.std.specs.Prelude.{◌≡◌, ◌-◌, ◌≤◌, ◌<◌, length};
+ghost use Rattle.std.specs.Prelude.{◌≡◌, ◌-◌, ◌≤◌, ◌<◌, length, Ok};
 ghost use Rattle.table.specs.Node.{Narrow};
 ghost use Rattle.table.specs.Sheet.{table_fault};
 ghost use Rattle.table.specs.Ceiling as top;
@@ -7,7 +7,7 @@ ghost use Rattle.table.specs.Ceiling.{div_gates, div_constraints, shift_gates, m
 use crate::field::{is_given, node_at, width_at};
 use crate::kind::{ADD, AND, EQ, ITE, MUL, NOT, OR, READ, SLL, SRL, SUB, ULT, WRITE, divides};
 use crate::size::{node_size, size_of, times};
-use crate::{Fault, Node, Sums, Unit};
+use crate::{Node, Sums, Unit};
 use digits::powers_below;
 
 fn less_one(a: u64) -> u64
@@ -58,51 +58,32 @@ fn ite_gates(n: u64, w: u64, v: u64) -> u64
 }
 
 // The gates of a node that is not given and no division, over a first operand x wide.
+#[tactic(
+    auto,
+    unfolding(
+        crate::specs::Ceiling::plain_gates,
+        crate::specs::Op::by_op,
+        digits::specs::Op::op_gates,
+        loops::specs::Loop::pick
+    )
+)]
 fn plain_gates(n: u64, w: u64, node: Node, x: u64) -> u64
     requires { (n ≤ 64) × (w ≤ 64) × (node.width ≤ 64) × (x ≤ 64) }
     ensures { (result ≡ plain_gates n w node x) × (result ≤ 67108864) }
 {
-    let k = node.kind;
-    if k == ITE {
-        return ite_gates(n, w, node.width);
+    match node.kind {
+        ITE => ite_gates(n, w, node.width),
+        READ => memory_gates(n, w, 4),
+        WRITE => memory_gates(n, w, 5),
+        NOT | AND | OR => x,
+        EQ => less_one(3 * x),
+        ADD => 3 * x,
+        SUB => 4 * x,
+        ULT => 4 * x + 1,
+        MUL => times(2 * x, x + 1),
+        SLL | SRL => shift_gates(x),
+        _ => 0,
     }
-    if k == READ {
-        return memory_gates(n, w, 4);
-    }
-    if k == WRITE {
-        return memory_gates(n, w, 5);
-    }
-    if k == NOT {
-        return x;
-    }
-    if k == AND {
-        return x;
-    }
-    if k == EQ {
-        return less_one(3 * x);
-    }
-    if k == ADD {
-        return 3 * x;
-    }
-    if k == SUB {
-        return 4 * x;
-    }
-    if k == ULT {
-        return 4 * x + 1;
-    }
-    if k == MUL {
-        return times(2 * x, x + 1);
-    }
-    if k == OR {
-        return x;
-    }
-    if k == SLL {
-        return shift_gates(x);
-    }
-    if k == SRL {
-        return shift_gates(x);
-    }
-    0
 }
 
 // The gates that a node may make.
@@ -149,7 +130,7 @@ fn node_constraints(table: &[u64], i: usize) -> u64
 
 // The sums of a table without fault over all its nodes, in one pass; the two constants count among the gates.
 pub fn sums(table: &[u64], addrs: &[u64], w: u64) -> Sums
-    requires { table_fault table.now addrs.now w ≡ Fault.Clear }
+    requires { table_fault table.now addrs.now w ≡ Ok tt }
     ensures { result ≡ sums_of table.now (length addrs.now) w }
 {
     let n = addrs.len() as u64;
@@ -157,12 +138,10 @@ pub fn sums(table: &[u64], addrs: &[u64], w: u64) -> Sums
     let mut gates = 2;
     let mut map = 0;
     let mut constraints = 0;
-    let mut i = 0;
-    while i < m {
+    for i in 0..m {
         gates += node_gates(table, n, w, i);
         map += node_size(Unit::Bit, table, n, w, i);
         constraints += node_constraints(table, i);
-        i += 1;
     }
     Sums {
         gates,

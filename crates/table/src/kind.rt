@@ -52,7 +52,7 @@ pub fn named(k: u64) -> bool
 pub fn lowered(k: u64) -> bool
     ensures { result ≡ kinds.lowered k }
 {
-    (k <= WRITE) | (k == OR) | (k == SLL) | (k == SRL) | (k == SEXT)
+    (k <= WRITE) | matches!(k, OR | SLL | SRL | SEXT)
 }
 
 // A state's a is its initial node, or 0.
@@ -77,7 +77,7 @@ pub fn uses_b(k: u64) -> bool
 pub fn uses_c(k: u64) -> bool
     ensures { result ≡ kinds.uses_c k }
 {
-    (k == ITE) | (k == WRITE)
+    matches!(k, ITE | WRITE)
 }
 
 pub fn uses_imm(k: u64) -> bool
@@ -90,39 +90,31 @@ pub fn uses_imm(k: u64) -> bool
 pub fn evenly(k: u64) -> bool
     ensures { result ≡ kinds.evenly k }
 {
-    (k == AND)
-        | (k == ADD)
-        | (k == SUB)
-        | (k == MUL)
-        | (k == DIVU)
-        | (k == REM)
-        | (k == OR)
-        | (k == SLL)
-        | (k == SRL)
+    matches!(k, AND | ADD | SUB | MUL | DIVU | REM | OR | SLL | SRL)
 }
 
 pub fn compares(k: u64) -> bool
     ensures { result ≡ kinds.compares k }
 {
-    (k == EQ) | (k == ULT)
+    matches!(k, EQ | ULT)
 }
 
 pub fn divides(k: u64) -> bool
     ensures { result ≡ kinds.divides k }
 {
-    (k == DIVU) | (k == REM)
+    matches!(k, DIVU | REM)
 }
 
 // The two extensions.
 pub fn extends(k: u64) -> bool
     ensures { result ≡ kinds.extends k }
 {
-    (k == EXT) | (k == SEXT)
+    matches!(k, EXT | SEXT)
 }
 
 // read and write have an address.
 pub fn accesses(k: u64) -> bool
     ensures { result ≡ kinds.accesses k }
 {
-    (k == READ) | (k == WRITE)
+    matches!(k, READ | WRITE)
 }

@@ -19,9 +19,8 @@ pub struct Node {
 }
 
 // The refusals 1 to 6; a node is named by its number, from 1.
-#[derive(Clone, Copy)]
+#[derive(Clone, Copy, Debug, PartialEq, Eq)]
 pub enum Fault {
-    Clear,
     Size,
     Address,
     Kind(usize),

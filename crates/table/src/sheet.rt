@@ -1,7 +1,7 @@
-ghost use Rattle.std.specs.Prelude.{◌≡◌, ◌^◌, ◌≤◌, ◌<◌, ltb, length};
-ghost use Rattle.loops.specs.Loop.{first};
+ghost use Rattle.std.specs.Prelude.{◌≡◌, ◌^◌, ◌≤◌, ◌<◌, ltb, length, Ok, Err};
+ghost use Rattle.loops.specs.Loop.{found};
 ghost use Rattle.table.specs.Sheet as sheet;
-ghost use Rattle.table.specs.Sheet.{is_clear, size_good, is_at, address_bad, addresses_bad, operand, operands_good, sort_good, sorts_good, fault_of, node_fault, nodes_fault, table_fault};
+ghost use Rattle.table.specs.Sheet.{size_good, is_at, address_bad, addresses_bad, operand, operands_good, sort_good, sorts_good, fault_of, node_fault, nodes_fault, table_fault};
 
 use crate::field::{node_at, width_at};
 use crate::kind::{
@@ -10,40 +10,50 @@ use crate::kind::{
 };
 use crate::{Fault, Node};
 
-// A fault's number on the sheet; 0 is no fault.
-pub fn number(f: Fault) -> u64
-    ensures { result ≡ sheet.number f }
-{
-    match f {
-        Fault::Clear => 0,
-        Fault::Size => 1,
-        Fault::Address => 2,
-        Fault::Kind(_) => 3,
-        Fault::NotLowered(_) => 4,
-        Fault::Operand(_) => 5,
-        Fault::Sort(_) => 6,
+impl Fault {
+    // Its number on the sheet.
+    pub fn number(self) -> u64
+        ensures { result ≡ sheet.number (Err self) }
+    {
+        match self {
+            Fault::Size => 1,
+            Fault::Address => 2,
+            Fault::Kind(_) => 3,
+            Fault::NotLowered(_) => 4,
+            Fault::Operand(_) => 5,
+            Fault::Sort(_) => 6,
+        }
+    }
+
+    // The node that stands beside it.
+    pub fn node(self) -> usize
+        ensures { result ≡ sheet.node (Err self) }
+    {
+        match self {
+            Fault::Size | Fault::Address => 0,
+            Fault::Kind(i) | Fault::NotLowered(i) | Fault::Operand(i) | Fault::Sort(i) => i,
+        }
     }
 }
 
-// The node that stands beside it.
-pub fn node(f: Fault) -> usize
-    ensures { result ≡ sheet.node f }
+// What crosses to C of a table's check: the number on the sheet; 0 is no fault.
+pub fn number(r: Result<(), Fault>) -> u64
+    ensures { result ≡ sheet.number r }
 {
-    match f {
-        Fault::Clear => 0,
-        Fault::Size => 0,
-        Fault::Address => 0,
-        Fault::Kind(i) => i,
-        Fault::NotLowered(i) => i,
-        Fault::Operand(i) => i,
-        Fault::Sort(i) => i,
+    match r {
+        Ok(()) => 0,
+        Err(f) => f.number(),
     }
 }
 
-pub fn clear(f: Fault) -> bool
-    ensures { result ≡ is_clear f }
+// And the node beside it.
+pub fn node(r: Result<(), Fault>) -> usize
+    ensures { result ≡ sheet.node r }
 {
-    number(f) == 0
+    match r {
+        Ok(()) => 0,
+        Err(f) => f.node(),
+    }
 }
 
 // Whether x is below 2^width.
@@ -63,19 +73,11 @@ fn size_good(table: &[u64], addrs: &[u64], w: u64) -> bool
     (len % 6 == 0) & (len / 6 <= 512) & (addrs.len() <= 64) & (1 <= w) & (w <= 64)
 }
 
-// The place of x among the first n addresses; n where it is not there.
-pub fn find(addrs: &[u64], n: usize, x: u64) -> usize
-    requires { n ≤ length addrs.now }
-    ensures { result ≡ first n (is_at addrs.now x) }
+// The place of x among the addresses.
+pub fn find(addrs: &[u64], x: u64) -> Option<usize>
+    ensures { result ≡ found (length addrs.now) (is_at addrs.now x) }
 {
-    let mut j = 0;
-    while j < n {
-        if addrs[j] == x {
-            return j;
-        }
-        j += 1;
-    }
-    j
+    addrs.iter().position(|a| *a == x)
 }
 
 fn address_bad(addrs: &[u64], w: u64, i: usize) -> bool
@@ -83,20 +85,13 @@ fn address_bad(addrs: &[u64], w: u64, i: usize) -> bool
     ensures { result ≡ address_bad addrs.now w i }
 {
     let x = addrs[i];
-    (find(addrs, i, x) < i) | !fits(x, w)
+    addrs[..i].contains(&x) | !fits(x, w)
 }
 
 fn addresses_bad(addrs: &[u64], w: u64) -> bool
     ensures { result ≡ addresses_bad addrs.now w }
 {
-    let mut i = 0;
-    while i < addrs.len() {
-        if address_bad(addrs, w, i) {
-            return true;
-        }
-        i += 1;
-    }
-    false
+    (0..addrs.len()).any(|i| address_bad(addrs, w, i))
 }
 
 // Whether x may be an operand of node i, which must or may use one there.
@@ -146,55 +141,49 @@ fn sorts_good(table: &[u64], w: u64, node: Node) -> bool
 }
 
 // The first of 3 to 6 at a node with number i.
-fn fault_of(table: &[u64], w: u64, i: usize, node: Node) -> Fault
+fn fault_of(table: &[u64], w: u64, i: usize, node: Node) -> Result<(), Fault>
     ensures { result ≡ fault_of table.now w i node }
 {
     if !named(node.kind) {
-        return Fault::Kind(i);
+        return Err(Fault::Kind(i));
     }
     if !lowered(node.kind) {
-        return Fault::NotLowered(i);
+        return Err(Fault::NotLowered(i));
     }
     if !operands_good(i, node) {
-        return Fault::Operand(i);
+        return Err(Fault::Operand(i));
     }
     if !sorts_good(table, w, node) {
-        return Fault::Sort(i);
+        return Err(Fault::Sort(i));
     }
-    Fault::Clear
+    Ok(())
 }
 
-fn node_fault(table: &[u64], w: u64, i: usize) -> Fault
+fn node_fault(table: &[u64], w: u64, i: usize) -> Result<(), Fault>
     ensures { result ≡ node_fault table.now w i }
 {
     fault_of(table, w, i, node_at(table, i))
 }
 
 // Nodes upwards, to the first with a fault.
-fn nodes_fault(table: &[u64], w: u64) -> Fault
+fn nodes_fault(table: &[u64], w: u64) -> Result<(), Fault>
     ensures { result ≡ nodes_fault table.now w }
 {
-    let n = table.len() / 6;
-    let mut i = 0;
-    while i < n {
-        let f = node_fault(table, w, i + 1);
-        if !clear(f) {
-            return f;
-        }
-        i += 1;
+    for i in 0..table.len() / 6 {
+        node_fault(table, w, i + 1)?;
     }
-    Fault::Clear
+    Ok(())
 }
 
 // The first of 1 to 6 that applies to a table, its listed addresses and its word width.
-pub fn check_table(table: &[u64], addrs: &[u64], w: u64) -> Fault
+pub fn check_table(table: &[u64], addrs: &[u64], w: u64) -> Result<(), Fault>
     ensures { result ≡ table_fault table.now addrs.now w }
 {
     if !size_good(table, addrs, w) {
-        return Fault::Size;
+        return Err(Fault::Size);
     }
     if addresses_bad(addrs, w) {
-        return Fault::Address;
+        return Err(Fault::Address);
     }
     nodes_fault(table, w)
 }
@@ -204,13 +193,5 @@ pub fn asks(table: &[u64]) -> bool
     ensures { result ≡ sheet.asks table.now }
 {
     let whole = table.len() / 6;
-    let mut i = 0;
-    while i < whole {
-        let node = node_at(table, i + 1);
-        if node.kind == BAD {
-            return true;
-        }
-        i += 1;
-    }
-    false
+    (0..whole).any(|i| node_at(table, i + 1).kind == BAD)
 }

@@ -51,11 +51,9 @@ pub fn offsets(unit: Unit, table: &[u64], n: u64, w: u64, out: &mut [usize]) -> 
     let m = table.len() / 6;
     let mut at = 0;
     out[0] = 0;
-    let mut i = 0;
-    while i < m {
+    for i in 0..m {
         out[i + 1] = at;
         at += node_size(unit, table, n, w, i) as usize;
-        i += 1;
     }
     out[m + 1] = at;
     at

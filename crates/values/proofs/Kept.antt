@@ -1,17 +1,16 @@
 -- What the word evaluator leaves as it was, and of what each slot is made.
-use Rattle.std.proofs.Common.{◌≡◌, ℕ, zero, suc, ◌+◌, ◌<◌, ◌≤◌, Bool, true, false, not, ltb, List, length, get_or, sym, refl, ap, ◌∙◌, arith, length-set, get_or-set_other, get_or-set_same, ltb-false}
+use Rattle.std.proofs.Common.{◌≡◌, ℕ, zero, suc, ◌+◌, ◌<◌, ◌≤◌, Bool, true, false, ltb, List, length, Result, Ok, Err, get_or, sym, refl, ap, ◌∙◌, arith, length-set, get_or-set_other, get_or-set_same, ltb-false}
 use native.Mathlib.Decide.{dec_lt}
 use Rattle.loops.specs.Loop.{pick, iter, first}
 use Rattle.loops.proofs.Loop.{iter-inv, pick_true, pick-false}
-use Rattle.table.specs.declared.Fault.TheVariants.{Clear}
+use Rattle.table.specs.declared.Fault.{Fault}
 use Rattle.table.specs.declared.Node.{Node}
 use Rattle.table.specs.declared.Unit.TheVariants.{Slot}
 use Rattle.table.specs.Node.{nodes, node_at, width_of, a_of, b_of, c_of}
-use Rattle.table.specs.Sheet.{table_fault, is_clear}
+use Rattle.table.specs.Sheet.{table_fault, by_fault}
 use Rattle.table.proofs.size.Laws.{apart, begins, size_room}
-use Rattle.table.proofs.Whole.{is-clear}
-use Rattle.values.specs.declared.Answer.{Answer}
-use Rattle.values.specs.declared.Answer.TheVariants.{Done, Table, ValueRoom, Input}
+use Rattle.values.specs.declared.Refusal.{Refusal}
+use Rattle.values.specs.declared.Refusal.TheVariants.{Table, ValueRoom, Input}
 use Rattle.values.specs.Value.{place_at, slot_at}
 use Rattle.values.specs.Eval.{slots, offset, total, node_given, input_bad, slot_step, node_step, Run, run, eval_clear, eval_words}
 use Rattle.values.specs.Frame.{Kept}
@@ -142,39 +141,37 @@ module _ (t l : List ℕ) where
         next : o + slots t l i ≤ offset t l (suc i + 1)
         next = apart Slot t (length l) 0 i (suc i) (omega arith)
 
-abbrev is_done : Answer → Bool
-is_done Done = true
-is_done (Table f) = false
-is_done ValueRoom = false
-is_done (Input i) = false
-
-not_first : {P : Type 0} (b : Bool) (x y : Run) → is_done x.answer ≡ false → (pick b x y).answer ≡ Done → (b ≡ false → y.answer ≡ Done → P) → P
+refused-first : {P : Type 0} (b : Bool) (f : Refusal) (v : List ℕ) (y : Run) → (pick b (run (Err f) v) y).answer ≡ Ok tt → (b ≡ false → y.answer ≡ Ok tt → P) → P
 unfolding pick
-not_first true x y n e f = absurd (let z : ◌≡◌ {A = ℕ} 0 1 = cc (ap is_done e) in omega arith)
-not_first false x y n e f = f refl e
+refused-first true f v y e k = absurd cc
+refused-first false f v y e k = k refl e
 
--- what Done tells: a table without fault, room, given values in range, and where the values come from
+by-clear : {P : Type 0} (r : Result Unit Fault) (y : Run) (v : List ℕ) → (by_fault r y (λ f. run (Err (Table f)) v)).answer ≡ Ok tt → (r ≡ Ok tt → y.answer ≡ Ok tt → P) → P
+by-clear (Ok u) y v e k = k refl e
+by-clear (Err f) y v e k = absurd cc
+
+-- what an answer without refusal tells: a table without fault, room, given values in range, and where the values come from
 pub record Finished (t l : List ℕ) (w : ℕ) (v : List ℕ) : Type 0 where
-  pub clear : table_fault t l w ≡ Clear
+  pub clear : table_fault t l w ≡ Ok tt
   pub room : total t l ≤ length v
   pub inputs : nodes t ≤ first (nodes t) (input_bad t l w v)
   pub values : (eval_words t l w v).values ≡ iter (nodes t) (node_step t l) v
 
-pub finished : (t l : List ℕ) (w : ℕ) (v : List ℕ) → (eval_words t l w v).answer ≡ Done → Finished t l w v
+pub finished : (t l : List ℕ) (w : ℕ) (v : List ℕ) → (eval_words t l w v).answer ≡ Ok tt → Finished t l w v
 unfolding eval_words eval_clear
 finished t l w v e =
-    not_first (not (is_clear (table_fault t l w))) (run (Table (table_fault t l w)) v) (eval_clear t l w v) refl e
+    by-clear (table_fault t l w) (eval_clear t l w v) v e
     (λ b1 e1.
-    not_first (ltb (length v) (total t l)) (run ValueRoom v) _ refl e1
+    refused-first (ltb (length v) (total t l)) ValueRoom v _ e1
     (λ b2 e2.
-    not_first (ltb (first (nodes t) (input_bad t l w v)) (nodes t)) (run (Input (first (nodes t) (input_bad t l w v) + 1)) v) _ refl e2
+    refused-first (ltb (first (nodes t) (input_bad t l w v)) (nodes t)) (Input (first (nodes t) (input_bad t l w v) + 1)) v _ e2
     (λ b3 e3.
     record {
-      clear = is-clear (table_fault t l w) b1;
+      clear = b1;
       room = ltb-false (length v) (total t l) b2;
       inputs = ltb-false (first (nodes t) (input_bad t l w v)) (nodes t) b3;
       values =
-          ap (λ r. r.values)
-          (pick-false _ (run (Table (table_fault t l w)) v) (eval_clear t l w v) b1
-          ∙ (pick-false _ (run ValueRoom v) _ b2 ∙ pick-false _ (run (Input (first (nodes t) (input_bad t l w v) + 1)) v) _ b3));
+          rw b1
+          (ap (λ (r : Run). r.values)
+          (pick-false _ (run (Err ValueRoom) v) _ b2 ∙ pick-false _ (run (Err (Input (first (nodes t) (input_bad t l w v) + 1))) v) _ b3));
     })))

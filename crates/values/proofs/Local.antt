@@ -1,5 +1,5 @@
 -- A node's value looks only at the slots of lower nodes, so the final values are what each node's kind makes of the final values themselves.
-use Rattle.std.proofs.Common.{◌≡◌, ℕ, ◌+◌, ◌-◌, ◌<◌, ◌≤◌, true, false, List, length, get_or, sym, ap, ◌∙◌, ap₂, inl, inr, arith, le-ltb, lt-ltb}
+use Rattle.std.proofs.Common.{◌≡◌, Ok, ℕ, ◌+◌, ◌-◌, ◌<◌, ◌≤◌, true, false, List, length, get_or, sym, ap, ◌∙◌, ap₂, inl, inr, arith, le-ltb, lt-ltb}
 use native.Mathlib.Decide.{dec_lt}
 use Rattle.loops.specs.Loop.{pick, iter}
 use Rattle.table.specs.declared.Node.{Node}
@@ -8,7 +8,6 @@ use Rattle.table.specs.Node.{nodes, node_at, width_of, a_of, b_of, c_of}
 use Rattle.digits.proofs.Ops.{op_same}
 use Rattle.table.proofs.Ops.{op-a, op-b}
 use Rattle.table.proofs.Whole.{Sound, Rule, is-const, is-input, is_state, is-op, is-bad, is-ext, is-ite, is-divu, is-rem, is_read, is-write, is-sext, within, each-sound}
-use Rattle.values.specs.declared.Answer.TheVariants.{Done}
 use Rattle.values.specs.Value.{listed, div_word, rem_word, sext_word, read_value, write_value, ite_value, place_at, slot_at}
 use Rattle.values.specs.Eval.{slots, offset, node_given, node_step, eval_words}
 use Rattle.values.specs.Frame.{Valued}
@@ -139,8 +138,8 @@ module _ (t l : List ℕ) (w i : ℕ) (x y : List ℕ) (j : ℕ) (pos : 1 ≤ w)
   unfolding Local
   local = by-rule s.sort
 
--- what is answered with Done: given slots and all beyond are kept, and every other slot is what its node's kind makes of the answer itself
-pub done-right : (t l : List ℕ) (w : ℕ) (v : List ℕ) → (eval_words t l w v).answer ≡ Done → Valued t l v (eval_words t l w v).values
+-- what is answered with no refusal: given slots and all beyond are kept, and every other slot is what its node's kind makes of the answer itself
+pub done-right : (t l : List ℕ) (w : ℕ) (v : List ℕ) → (eval_words t l w v).answer ≡ Ok tt → Valued t l v (eval_words t l w v).values
 done-right t l w v e =
     let f = finished t l w v e in
     rw f.values

@@ -1,12 +1,11 @@
 -- Values stay in range: each slot of a word is below 2^width, each word of a memory below 2^W.
-use Rattle.std.proofs.Common.{◌≡◌, ℕ, zero, suc, ◌+◌, ◌-◌, ◌*◌, ◌/◌, ◌%◌, ◌^◌, ◌<◌, ◌≤◌, Bool, true, false, eqb, ltb, List, length, get_or, sym, refl, ap, ◌∙◌, inl, inr, lt_of_lt_of_le, lt_of_le_of_lt, mod-lt, div-le_self, arith, pow_pos, pow_mono, ltb-false, ltb-true}
+use Rattle.std.proofs.Common.{◌≡◌, Ok, ℕ, zero, suc, ◌+◌, ◌-◌, ◌*◌, ◌/◌, ◌%◌, ◌^◌, ◌<◌, ◌≤◌, Bool, true, false, eqb, ltb, List, length, get_or, sym, refl, ap, ◌∙◌, inl, inr, lt_of_lt_of_le, lt_of_le_of_lt, mod-lt, div-le_self, arith, pow_pos, pow_mono, ltb-false, ltb-true}
 use native.Mathlib.Nat.{mod-le}
 use native.Mathlib.Decide.{dec_lt}
 use lib.Bits.{and_le_l, or_lt}
 use borrow.Author.Tests.{not-false}
 use Rattle.loops.specs.Loop.{first, pick, bit}
 use Rattle.loops.proofs.Loop.{by-pick, first_below}
-use Rattle.table.specs.declared.Fault.TheVariants.{Clear}
 use Rattle.table.specs.declared.Node.{Node}
 use Rattle.table.specs.Kind.{uses_a, uses_b, uses_c}
 use Rattle.table.specs.Node.{nodes, node_at, width_of, a_of, b_of, c_of}
@@ -15,7 +14,6 @@ use Rattle.digits.specs.Op.{Op, op_two, op_one, op_wide, op_value}
 use Rattle.digits.proofs.Ops.{each-op, op-even, op-wide, op-some}
 use Rattle.table.proofs.Ops.{op-a, op-b}
 use Rattle.table.proofs.Whole.{Sound, Rule, Extended, is-const, is-input, is_state, is-op, is-bad, is-ext, is-ite, is-divu, is-rem, is_read, is-write, is-sext, within, each-sound}
-use Rattle.values.specs.declared.Answer.TheVariants.{Done}
 use Rattle.values.specs.Value.{not_word, add_word, sub_word, mul_word, div_word, rem_word, sll_word, srl_word, sext_word, read_value, write_value, ite_value, place_at, slot_at}
 use Rattle.values.specs.Eval.{slots, offset, node_given, slot_width, slot_bad, input_bad, eval_words}
 use Rattle.values.specs.Frame.{InRange, Made}
@@ -170,7 +168,7 @@ module _ (t l : List ℕ) (w i : ℕ) (x : List ℕ) (j : ℕ) (pos : 1 ≤ w) (
   unfolding Good
   slot-range = by-rule s.sort
 
-module _ (t l : List ℕ) (w : ℕ) (v : List ℕ) (e : (eval_words t l w v).answer ≡ Done) where
+module _ (t l : List ℕ) (w : ℕ) (v : List ℕ) (e : (eval_words t l w v).answer ≡ Ok tt) where
   abbrev x : List ℕ
   x = (eval_words t l w v).values
 
@@ -195,7 +193,7 @@ module _ (t l : List ℕ) (w : ℕ) (v : List ℕ) (e : (eval_words t l w v).ans
   next n h ih j k true g = given-range n j h k g
   next n h ih j k false g = rw (made n j h k g) (slot-range t l w n x j (within t l w clear).3 (each-sound t l w clear n h) g k all)
     where
-      clear : table_fault t l w ≡ Clear
+      clear : table_fault t l w ≡ Ok tt
       clear = (finished t l w v e).clear
 
       made : (i j : ℕ) → i < nodes t → j < slots t l i → node_given t i ≡ false → Made t l x x i j
@@ -212,6 +210,6 @@ module _ (t l : List ℕ) (w : ℕ) (v : List ℕ) (e : (eval_words t l w v).ans
   below zero h i j a k = absurd (omega arith)
   below (suc n) h i j a k = up_to n h (below n (omega arith)) i j a k (dec_lt i n)
 
-  -- all that is answered with Done is in range
+  -- all that is answered with no refusal is in range
   pub in-range : InRange t l w (eval_words t l w v).values
   in-range i j h k = below (nodes t) (omega arith) i j h k

@@ -1,28 +1,28 @@
 -- The word evaluator: one slot a word, n a memory, in node order.
-use Rattle.std.specs.Prelude.{ℕ, ◌+◌, ◌^◌, Bool, not, ◌&&◌, List, length, ◌==◌, nat_lt, slice_index, slice_set}
+use Rattle.std.specs.Prelude.{ℕ, ◌+◌, ◌^◌, Bool, not, ◌&&◌, List, length, ◌==◌, nat_lt, slice_index, slice_set, Result, Ok, Err}
 use Rattle.loops.specs.Loop.{pick, first, iter}
 use Rattle.table.specs.declared.Node.{Node}
 use Rattle.table.specs.declared.Unit.TheVariants.{Slot}
 use Rattle.table.specs.Node.{width_of, a_of, b_of, c_of, node_at, nodes, given, Fine}
 use Rattle.table.specs.Sheet as sheet
-use Rattle.table.specs.Sheet.{table_fault, is_clear}
+use Rattle.table.specs.Sheet.{table_fault, by_fault}
 use Rattle.table.specs.Size.{node_size, offset_of, size_sum, Offsets}
-use Rattle.values.specs.declared.Answer.{Answer}
-use Rattle.values.specs.declared.Answer.TheVariants.{Done, Table, ValueRoom, Input}
+use Rattle.values.specs.declared.Refusal.{Refusal}
+use Rattle.values.specs.declared.Refusal.TheVariants.{Table, ValueRoom, Input}
 use Rattle.values.specs.Value.{place_at, slot_at}
 
 -- the sheet's number of an answer, and the node beside it; 0 is no refusal
-abbrev pub number : Answer → ℕ
-number Done = 0
-number (Table f) = sheet.number f
-number ValueRoom = 12
-number (Input i) = 13
+abbrev pub number : Result Unit Refusal → ℕ
+number (Ok u) = 0
+number (Err (Table f)) = sheet.number (Err f)
+number (Err ValueRoom) = 12
+number (Err (Input i)) = 13
 
-abbrev pub node : Answer → ℕ
-node Done = 0
-node (Table f) = sheet.node f
-node ValueRoom = 0
-node (Input i) = i
+abbrev pub node : Result Unit Refusal → ℕ
+node (Ok u) = 0
+node (Err (Table f)) = sheet.node (Err f)
+node (Err ValueRoom) = 0
+node (Err (Input i)) = i
 
 -- the slots of node i + 1, where those of node i begin, and all of them; a word width does not matter
 abbrev pub slots : List ℕ → List ℕ → ℕ → ℕ
@@ -68,21 +68,19 @@ node_step t l i vals =
 
 -- an answer, and the values with it
 pub record Run : Type 0 where
-  pub answer : Answer
+  pub answer : Result Unit Refusal
   pub values : List ℕ
 
-abbrev pub run : Answer → List ℕ → Run
+abbrev pub run : Result Unit Refusal → List ℕ → Run
 run a v = record { answer = a; values = v }
 
 -- 12, then 13, then the values
 unfoldable pub eval_clear : List ℕ → List ℕ → ℕ → List ℕ → Run
 eval_clear t l w v =
-    pick (nat_lt (length v) (total t l)) (run ValueRoom v)
-    (pick (nat_lt (first (nodes t) (input_bad t l w v)) (nodes t)) (run (Input (first (nodes t) (input_bad t l w v) + 1)) v)
-    (run Done (iter (nodes t) (node_step t l) v)))
+    pick (nat_lt (length v) (total t l)) (run (Err ValueRoom) v)
+    (pick (nat_lt (first (nodes t) (input_bad t l w v)) (nodes t)) (run (Err (Input (first (nodes t) (input_bad t l w v) + 1))) v)
+    (run (Ok tt) (iter (nodes t) (node_step t l) v)))
 
 -- 1 to 6 first
 unfoldable pub eval_words : List ℕ → List ℕ → ℕ → List ℕ → Run
-eval_words t l w v =
-    pick (not (is_clear (table_fault t l w))) (run (Table (table_fault t l w)) v)
-    (eval_clear t l w v)
+eval_words t l w v = by_fault (table_fault t l w) (eval_clear t l w v) (λ f. run (Err (Table f)) v)

@@ -1,36 +1,56 @@
-ghost use Rattle.std.specs.Prelude.{◌≡◌, ◌+◌, ◌<◌, ◌≤◌, length};
+ghost use Rattle.std.specs.Prelude.{◌≡◌, ◌+◌, ◌<◌, ◌≤◌, length, Err};
 ghost use Rattle.loops.specs.Loop.{iter};
 ghost use Rattle.table.specs.Node.{nodes, Fine};
 ghost use Rattle.values.specs.Eval as eval;
 ghost use Rattle.values.specs.Eval.{Ready, total, slot_step, node_step, run, eval_clear, eval_words};
 
-use crate::Answer;
+use crate::Refusal;
 use crate::input::first_bad_input;
 use crate::slot::{place_at, slot_at, slots_of};
 use table::field::{is_given, node_at, width_at};
 use table::{Node, Unit};
 
-// An answer's number on the refusal sheet; 0 is no refusal.
-pub fn number(a: Answer) -> u64
-    ensures { result ≡ eval.number a }
-{
-    match a {
-        Answer::Done => 0,
-        Answer::Table(f) => table::sheet::number(f),
-        Answer::ValueRoom => 12,
-        Answer::Input(_) => 13,
+impl Refusal {
+    // Its number on the refusal sheet.
+    pub fn number(self) -> u64
+        ensures { result ≡ eval.number (Err self) }
+    {
+        match self {
+            Refusal::Table(f) => f.number(),
+            Refusal::ValueRoom => 12,
+            Refusal::Input(_) => 13,
+        }
+    }
+
+    // The node that stands beside it.
+    pub fn node(self) -> usize
+        ensures { result ≡ eval.node (Err self) }
+    {
+        match self {
+            Refusal::Table(f) => f.node(),
+            Refusal::ValueRoom => 0,
+            Refusal::Input(i) => i,
+        }
     }
 }
 
-// The node that stands beside it.
-pub fn node(a: Answer) -> usize
-    ensures { result ≡ eval.node a }
+// What crosses to C of an answer: the number on the refusal sheet; 0 is no refusal.
+pub fn number(r: Result<(), Refusal>) -> u64
+    ensures { result ≡ eval.number r }
 {
-    match a {
-        Answer::Done => 0,
-        Answer::Table(f) => table::sheet::node(f),
-        Answer::ValueRoom => 0,
-        Answer::Input(i) => i,
+    match r {
+        Ok(()) => 0,
+        Err(e) => e.number(),
+    }
+}
+
+// And the node beside it.
+pub fn node(r: Result<(), Refusal>) -> usize
+    ensures { result ≡ eval.node r }
+{
+    match r {
+        Ok(()) => 0,
+        Err(e) => e.node(),
     }
 }
 
@@ -123,7 +143,7 @@ fn eval_clear(
     w: u64,
     offsets: &mut [usize],
     values: &mut [u64],
-) -> Answer
+) -> Result<(), Refusal>
     requires fine { Fine table.now addrs.now }
     requires in_bounds { 514 ≤ length offsets.old }
     ensures { run result values.new ≡ eval_clear table.now addrs.now w values.old }
@@ -132,25 +152,21 @@ fn eval_clear(
     let n = addrs.len() as u64;
     let room = table::size::offsets(Unit::Slot, table, n, 0, offsets);
     if values.len() < room {
-        return Answer::ValueRoom;
+        return Err(Refusal::ValueRoom);
     }
     let i = first_bad_input(table, addrs, w, offsets, values);
     if i < m {
-        let node = i + 1;
-        return Answer::Input(node);
+        return Err(Refusal::Input(i + 1));
     }
     eval_all(table, addrs, offsets, values);
-    Answer::Done
+    Ok(())
 }
 
 // The values of all nodes: given slots are read, the others worked out.
-pub fn eval_words(table: &[u64], addrs: &[u64], w: u64, values: &mut [u64]) -> Answer
+pub fn eval_words(table: &[u64], addrs: &[u64], w: u64, values: &mut [u64]) -> Result<(), Refusal>
     ensures { run result values.new ≡ eval_words table.now addrs.now w values.old }
 {
-    let f = table::sheet::check_table(table, addrs, w);
-    if !table::sheet::clear(f) {
-        return Answer::Table(f);
-    }
+    table::sheet::check_table(table, addrs, w)?;
     let mut offsets = [0usize; 514];
     eval_clear(table, addrs, w, &mut offsets, values)
 }

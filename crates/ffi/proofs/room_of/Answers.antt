@@ -1,11 +1,12 @@
-use Rattle.ffi.proofs.Cross.{clear-table, clear_room, faulty-room}
+use mathlib.Core.Path.{sym, ◌∙◌}
+use Rattle.ffi.proofs.Cross.{clear_room, faulty-room}
 use Rattle.ffi.proofs.room_of.Goals as goal
 
 pub sums-requires : goal.sums-requires
-sums-requires c = clear-table c.args.table.now c.args.addrs.now c.args.word _ _ c.requires c.clear.ensures c.if-clear.true
+sums-requires c = sym c.requires ∙ c.in-Ok.is
 
-pub returns-then-clear : goal.returns-then-clear
-returns-then-clear c = clear_room c.args.table.now c.args.addrs.now c.args.word _ _ c.requires c.clear.ensures c.if-clear.true _ c.sums.ensures
+pub returns-in-Ok : goal.returns-in-Ok
+returns-in-Ok c = c.sums.ensures ∙ sym (clear_room _ _ _ (sym c.in-Ok.is ∙ c.requires))
 
-pub returns : goal.returns
-returns c = faulty-room c.args.table.now c.args.addrs.now c.args.word _ _ c.requires c.clear.ensures c.if-clear.false
+pub returns-in-Err : goal.returns-in-Err
+returns-in-Err c = sym (faulty-room _ _ _ _ (sym c.in-Err.is ∙ c.requires))

@@ -1,6 +1,7 @@
 -- The refusal sheet, path by path.
 use mathlib.Core.Path.{◌≡◌, refl, ap, sym, ◌∙◌}
 use mathlib.Core.List.{List}
+use Rattle.std.specs.Prelude.{Result, Ok, Err}
 use mathlib.Core.Bool.{Bool, true, false, not, ◌||◌}
 use Prim.Native.Nat.{ℕ, ◌+◌, ◌*◌, ◌/◌, ◌^◌, ◌≤◌, ◌<◌}
 use native.Mathlib.Omega.{arith}
@@ -8,12 +9,15 @@ use native.Mathlib.Nat.{div-eq_of_lt, div-lt_iff_lt-mul, lt_of_lt_of_le}
 use native.Mathlib.Decide.{dec_lt}
 use lib.Dec.{eqb, ltb}
 use lib.Pow.{pow_pos, pow_mono}
-use lib.ListN.{length, get_or}
+use lib.ListN.{length, get_or, take}
+use Rattle.std.specs.List.{IsAnyAnswer}
+use Rattle.std.proofs.lemmas.List.{get_or-take, length-take-le}
+use Rattle.table.proofs.Any.{any-some, any-none}
 use borrow.Author.Tests.{lt-ltb, le-ltb, eq-eqb, ne_eqb}
 use Rattle.loops.specs.Loop.{pick, first}
 use Rattle.loops.proofs.Loop.{pick_true, pick-false, first_more, first_found, first_done}
 use Rattle.table.specs.declared.Fault.{Fault}
-use Rattle.table.specs.declared.Fault.TheVariants.{Clear, Size, Address, Kind, NotLowered, Operand, Sort}
+use Rattle.table.specs.declared.Fault.TheVariants.{Size, Address, Kind, NotLowered, Operand, Sort}
 use Rattle.table.specs.declared.Node.{Node}
 use Rattle.table.specs.Kind.{BAD, named, lowered}
 use Rattle.table.specs.Node.{kind_of, node_at, nodes}
@@ -32,27 +36,17 @@ fits-small x k = go (dec_lt x (2 ^ k))
 pub fits_all : (x k : ℕ) → x < 2 ^ 64 → 64 ≤ k → true ≡ ltb x (2 ^ k)
 fits_all x k h l = sym (lt-ltb x (2 ^ k) (lt_of_lt_of_le h (pow_mono l)))
 
-module _ (l : List ℕ) (n x j : ℕ) (e : j ≡ first j (is_at l x)) where
-  pub find-found : j < n → get_or l j 0 ≡ x → j ≡ first n (is_at l x)
-  unfolding is_at
-  find-found h q = first_found (is_at l x) n j true h e (sym (eq-eqb (get_or l j 0) x q)) refl
+-- `contains` of the first i addresses
+listed-before : (l : List ℕ) (x i : ℕ) (r : Bool) → i ≤ length l → IsAnyAnswer (λ y b. eqb y x ≡ b) (take i l) r → r ≡ ltb (first i (is_at l x)) i
+unfolding is_at
+listed-before l x i true h a =
+    let k : a.0 < i = omega (arith, length-take-le i l h) in
+    any-some (is_at l x) i a.0 k (rw (get_or-take i l a.0 0 k) at (a.2 0))
+listed-before l x i false h a = any-none (is_at l x) i (λ k m. rw (get_or-take i l k 0 m) at (a k 0 (omega arith) (omega (arith, length-take-le i l h))))
 
-  pub find-more : (get_or l j 0 ≡ x → ⊥) → j + 1 ≡ first (j + 1) (is_at l x)
-  unfolding is_at
-  find-more h = first_more (is_at l x) j false e (sym (ne_eqb (get_or l j 0) x h)) refl
-
-pub address-path : (l : List ℕ) (w i j : ℕ) (r : Bool) → j ≡ first i (is_at l (get_or l i 0)) → r ≡ ltb (get_or l i 0) (2 ^ w) → (ltb j i || not r) ≡ address_bad l w i
+pub address-path : (l : List ℕ) (w i : ℕ) (r s : Bool) → i < length l → IsAnyAnswer (λ y b. eqb y (get_or l i 0) ≡ b) (take i l) r → s ≡ ltb (get_or l i 0) (2 ^ w) → (r || not s) ≡ address_bad l w i
 unfolding address_bad
-address-path l w i j r e q = rw (← e, ← q)
-
-module _ (l : List ℕ) (w i : ℕ) (e : i ≡ first i (address_bad l w)) where
-  pub addresses-found : (r : Bool) → i < length l → r ≡ address_bad l w i → r ≡ true → true ≡ addresses_bad l w
-  unfolding addresses_bad
-  addresses-found r h q t = rw (← first_found (address_bad l w) (length l) i r h e q t, lt-ltb i (length l) h)
-
-  pub addresses-done : length l ≤ i → i ≤ length l → false ≡ addresses_bad l w
-  unfolding addresses_bad
-  addresses-done h m = rw (← first_done (address_bad l w) i (length l) h m e, le-ltb i (length l) h)
+address-path l w i r s h a q = rw (← listed-before l (get_or l i 0) i r (omega arith) a, ← q)
 
 -- a test that failed was answered, one that held is passed
 stop : {A : Type 0} (r s : Bool) (x y : A) → r ≡ s → not r ≡ true → x ≡ pick (not s) x y
@@ -62,72 +56,61 @@ pass : {A : Type 0} (r s : Bool) (x y z : A) → r ≡ s → not r ≡ false →
 pass r s x y z e b q = q ∙ sym (pick-false (not s) x y (ap not (sym e) ∙ b))
 
 module _ (t : List ℕ) (w i : ℕ) (d : Node) (r : Bool) (er : r ≡ named d.kind) where
-  pub fault-kind : not r ≡ true → Kind i ≡ fault_of t w i d
+  pub fault-kind : not r ≡ true → Err (Kind i) ≡ fault_of t w i d
   unfolding fault_of
   fault-kind h = stop r _ _ _ er h
 
   module _ (hr : not r ≡ false) (s : Bool) (es : s ≡ lowered d.kind) where
-    pub fault-lowered : not s ≡ true → NotLowered i ≡ fault_of t w i d
+    pub fault-lowered : not s ≡ true → Err (NotLowered i) ≡ fault_of t w i d
     unfolding fault_of
     fault-lowered h = pass r _ _ _ _ er hr (stop s _ _ _ es h)
 
     module _ (hs : not s ≡ false) (o : Bool) (eo : o ≡ operands_good i d) where
-      pub fault-operand : not o ≡ true → Operand i ≡ fault_of t w i d
+      pub fault-operand : not o ≡ true → Err (Operand i) ≡ fault_of t w i d
       unfolding fault_of
       fault-operand h = pass r _ _ _ _ er hr (pass s _ _ _ _ es hs (stop o _ _ _ eo h))
 
       module _ (ho : not o ≡ false) (q : Bool) (eq : q ≡ sorts_good t w d) where
-        pub fault-sort : not q ≡ true → Sort i ≡ fault_of t w i d
+        pub fault-sort : not q ≡ true → Err (Sort i) ≡ fault_of t w i d
         unfolding fault_of
         fault-sort h = pass r _ _ _ _ er hr (pass s _ _ _ _ es hs (pass o _ _ _ _ eo ho (stop q _ _ _ eq h)))
 
-        pub fault-clear : not q ≡ false → Clear ≡ fault_of t w i d
+        pub fault-clear : not q ≡ false → Ok tt ≡ fault_of t w i d
         unfolding fault_of
         fault-clear h = pass r _ _ _ _ er hr (pass s _ _ _ _ es hs (pass o _ _ _ _ eo ho (pass q _ _ _ _ eq h refl)))
 
+pub faulty : (f : Fault) → is_clear (Err f) ≡ false
+faulty Size = refl
+faulty Address = refl
+faulty (Kind i) = refl
+faulty (NotLowered i) = refl
+faulty (Operand i) = refl
+faulty (Sort i) = refl
+
 module _ (t : List ℕ) (w i : ℕ) (e : i ≡ first i (node_bad t w)) where
-  module _ (f : Fault) (r : Bool) (q : f ≡ node_fault t w (i + 1)) (c : r ≡ is_clear f) where
-    pub nodes-found : i < nodes t → not r ≡ true → f ≡ nodes_fault t w
-    unfolding nodes_fault node_bad pick
-    nodes-found h b =
-        rw (← first_found (node_bad t w) (nodes t) i (not r) h e (rw (c, q) refl) b, lt-ltb i (nodes t) h) q
+  pub nodes-found : (f : Fault) → Err f ≡ node_fault t w (i + 1) → i < nodes t → Err f ≡ nodes_fault t w
+  unfolding nodes_fault node_bad pick
+  nodes-found f q h =
+      rw (← first_found (node_bad t w) (nodes t) i true h e (rw (← q, faulty f) refl) refl, lt-ltb i (nodes t) h) q
 
-    pub nodes-more : not r ≡ false → i + 1 ≡ first (i + 1) (node_bad t w)
-    unfolding node_bad
-    nodes-more b = first_more (node_bad t w) i (not r) e (rw (c, q) refl) b
+  pub nodes-more : Ok tt ≡ node_fault t w (i + 1) → i + 1 ≡ first (i + 1) (node_bad t w)
+  unfolding node_bad
+  nodes-more q = first_more (node_bad t w) i false e (rw (← q) refl) refl
 
-  pub nodes-done : nodes t ≤ i → i ≤ nodes t → Clear ≡ nodes_fault t w
-  unfolding nodes_fault pick
-  nodes-done h m = rw (← first_done (node_bad t w) i (nodes t) h m e, le-ltb i (nodes t) h)
+pub nodes-done : (t : List ℕ) (w : ℕ) → nodes t ≡ first (nodes t) (node_bad t w) → Ok tt ≡ nodes_fault t w
+unfolding nodes_fault pick
+nodes-done t w e = rw (← e, le-ltb (nodes t) (nodes t) (omega arith))
 
 module _ (t l : List ℕ) (w : ℕ) (r : Bool) (e : r ≡ size_good t l w) where
-  pub table-size : not r ≡ true → Size ≡ table_fault t l w
+  pub table-size : not r ≡ true → Err Size ≡ table_fault t l w
   unfolding table_fault
   table-size h = stop r _ _ _ e h
 
   module _ (h : not r ≡ false) (s : Bool) (q : s ≡ addresses_bad l w) where
-    pub table-address : s ≡ true → Address ≡ table_fault t l w
+    pub table-address : s ≡ true → Err Address ≡ table_fault t l w
     unfolding table_fault
     table-address b = pass r _ _ _ _ e h (sym (pick_true _ _ _ (sym q ∙ b)))
 
-    pub table-nodes : (f : Fault) → s ≡ false → f ≡ nodes_fault t w → f ≡ table_fault t l w
+    pub table-nodes : (f : Result Unit Fault) → s ≡ false → f ≡ nodes_fault t w → f ≡ table_fault t l w
     unfolding table_fault
     table-nodes f b n = pass r _ _ _ _ e h (n ∙ sym (pick-false _ _ _ (sym q ∙ b)))
-
-module _ (t : List ℕ) (i : ℕ) (e : i ≡ first i (asks_at t)) where
-  module _ (d : Node) (q : d ≡ node_at t (i + 1)) where
-    is-kind : d.kind ≡ kind_of t (i + 1)
-    is-kind = ap (λ (x : Node). x.kind) q
-
-    pub asks-found : i < nodes t → d.kind ≡ BAD → true ≡ asks t
-    unfolding asks asks_at
-    asks-found h b =
-        rw (← first_found (asks_at t) (nodes t) i true h e (sym (eq-eqb (kind_of t (i + 1)) BAD (sym is-kind ∙ b))) refl, lt-ltb i (nodes t) h)
-
-    pub asks-more : (d.kind ≡ BAD → ⊥) → i + 1 ≡ first (i + 1) (asks_at t)
-    unfolding asks_at
-    asks-more h = first_more (asks_at t) i false e (sym (ne_eqb (kind_of t (i + 1)) BAD (λ b. h (is-kind ∙ b)))) refl
-
-  pub asks-done : nodes t ≤ i → i ≤ nodes t → false ≡ asks t
-  unfolding asks
-  asks-done h m = rw (← first_done (asks_at t) i (nodes t) h m e, le-ltb i (nodes t) h)

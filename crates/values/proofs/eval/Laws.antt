@@ -1,19 +1,16 @@
 -- The word evaluator, path by path.
-use Rattle.std.proofs.Common.{◌≡◌, ℕ, ◌+◌, ◌<◌, ◌≤◌, Bool, true, false, not, List, length, get_or, sym, ap, ◌∙◌, arith, le-ltb, lt-ltb}
+use Rattle.std.proofs.Common.{◌≡◌, ℕ, ◌+◌, ◌<◌, ◌≤◌, Bool, true, false, List, length, Ok, Err, get_or, sym, ap, ◌∙◌, arith, le-ltb, lt-ltb}
 use Rattle.loops.specs.Loop.{pick, first, iter}
 use Rattle.loops.proofs.Loop.{pick_true, pick-false}
-use Rattle.table.specs.declared.Fault.{Fault}
 use Rattle.table.specs.declared.Node.{Node}
 use Rattle.table.specs.declared.Unit.TheVariants.{Slot}
 use Rattle.table.specs.Node.{nodes, node_at, given, width_of, a_of, b_of, c_of, Fine}
-use Rattle.table.specs.Sheet.{table_fault, is_clear}
 use Rattle.table.specs.Size.{size_of, node_size, Offsets}
 use Rattle.table.proofs.size.Laws.{size_room}
 use Rattle.values.proofs.slot.Laws.{operands-in}
-use Rattle.values.specs.declared.Answer.{Answer}
-use Rattle.values.specs.declared.Answer.TheVariants.{Done, Table, ValueRoom, Input}
+use Rattle.values.specs.declared.Refusal.TheVariants.{ValueRoom, Input}
 use Rattle.values.specs.Value.{place_at}
-use Rattle.values.specs.Eval.{Ready, slots, offset, total, input_bad, slot_step, node_step, run, eval_clear, eval_words}
+use Rattle.values.specs.Eval.{Ready, slots, offset, total, input_bad, slot_step, node_step, run, eval_clear}
 
 module _ (t l vals : List ℕ) (i : ℕ) (d : Node) (r : Bool) (e : d ≡ node_at t (i + 1)) (g : r ≡ given d) where
   is-given : given (node_at t (i + 1)) ≡ r
@@ -44,24 +41,15 @@ fill-room t l o i d m n r h e em k =
     omega (arith, r.offsets.at (i + 1) (omega arith), size_room Slot t (length l) 0 i h)
 
 module _ (t l : List ℕ) (w : ℕ) (v : List ℕ) (x : ℕ) (e : x ≡ total t l) where
-  pub clear_room : length v < x → run ValueRoom v ≡ eval_clear t l w v
+  pub clear_room : length v < x → run (Err ValueRoom) v ≡ eval_clear t l w v
   unfolding eval_clear pick
   clear_room h = rw (← e, lt-ltb (length v) x h)
 
   module _ (i : ℕ) (m : x ≤ length v) (q : i ≡ first (nodes t) (input_bad t l w v)) where
-    pub clear-input : i < nodes t → run (Input (i + 1)) v ≡ eval_clear t l w v
+    pub clear-input : i < nodes t → run (Err (Input (i + 1))) v ≡ eval_clear t l w v
     unfolding eval_clear pick
     clear-input h = rw (← e, le-ltb (length v) x m, ← q, lt-ltb i (nodes t) h)
 
-    pub clear-done : (y : List ℕ) → nodes t ≤ i → y ≡ iter (nodes t) (node_step t l) v → run Done y ≡ eval_clear t l w v
+    pub clear-done : (y : List ℕ) → nodes t ≤ i → y ≡ iter (nodes t) (node_step t l) v → run (Ok tt) y ≡ eval_clear t l w v
     unfolding eval_clear pick
     clear-done y h k = rw (← e, le-ltb (length v) x m, ← q, le-ltb i (nodes t) h, k)
-
-module _ (t l : List ℕ) (w : ℕ) (v : List ℕ) (f : Fault) (r : Bool) (e : f ≡ table_fault t l w) (d : r ≡ is_clear f) where
-  pub words-fault : not r ≡ true → run (Table f) v ≡ eval_words t l w v
-  unfolding eval_words
-  words-fault h = ap (λ x. run (Table x) v) e ∙ sym (pick_true _ _ _ (ap not (sym (d ∙ ap is_clear e)) ∙ h))
-
-  pub words-clear : (a : Answer) (y : List ℕ) → not r ≡ false → run a y ≡ eval_clear t l w v → run a y ≡ eval_words t l w v
-  unfolding eval_words
-  words-clear a y h q = q ∙ sym (pick-false _ _ _ (ap not (sym (d ∙ ap is_clear e)) ∙ h))

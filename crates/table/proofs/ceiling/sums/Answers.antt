@@ -6,7 +6,7 @@ use Rattle.table.proofs.Whole.{fine, within}
 use Rattle.table.proofs.ceiling.sums.Goals as goal
 
 pub loop-i-init : goal.loop-i-init
-loop-i-init c = (omega arith, omega arith, omega arith, omega arith, sum-none _ 2, sum-none _ 0, sum-none _ 0)
+loop-i-init c = (omega arith, omega arith, omega arith, sum-none _ 2, sum-none _ 0, sum-none _ 0)
 
 pub node_gates-gates-requires : goal.node_gates-gates-requires
 node_gates-gates-requires c = let q = fine _ _ _ c.requires in (q.short, (within _ _ _ c.requires).4, omega (arith, q.few), q.narrow)
@@ -27,7 +27,7 @@ pub overflow_add-constraints : goal.overflow_add-constraints
 overflow_add-constraints c = let q = fine _ _ _ c.requires in omega (arith, q.few)
 
 pub loop-i-preserved : goal.loop-i-preserved
-loop-i-preserved c = (omega arith, omega arith, omega arith, omega arith, search (rules, sum_more), search (rules, sum_more), search (rules, sum_more))
+loop-i-preserved c = (omega arith, omega arith, omega arith, search (rules, sum_more), search (rules, sum_more), search (rules, sum_more))
 
 pub returns : goal.returns
 returns c = search (rules, sums-path)

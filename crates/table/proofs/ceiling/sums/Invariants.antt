@@ -7,7 +7,4 @@ use Rattle.table.specs.Ceiling.{node_gates, node_constraints}
 use Rattle.table.proofs.ceiling.sums.Given as goal
 
 abbrev pub invariant-loop-i : goal.invariant-loop-i
-invariant-loop-i l = (l.i ≤ l.m) × (l.gates ≤ 2 + 67108864 * l.i) × (l.map ≤ 16777216 * l.i) × (l.constraints ≤ 67108864 * l.i) × (l.gates ≡ 2 + sum l.i (node_gates l.table l.n l.w)) × (l.map ≡ 0 + sum l.i (node_size Bit l.table l.n l.w)) × (l.constraints ≡ 0 + sum l.i (node_constraints l.table))
-
-abbrev pub decreases-loop-i : goal.decreases-loop-i
-decreases-loop-i l = l.m - l.i
+invariant-loop-i l = (l.gates ≤ 2 + 67108864 * l.i) × (l.map ≤ 16777216 * l.i) × (l.constraints ≤ 67108864 * l.i) × (l.gates ≡ 2 + sum l.i (node_gates l.table l.n l.w)) × (l.map ≡ 0 + sum l.i (node_size Bit l.table l.n l.w)) × (l.constraints ≡ 0 + sum l.i (node_constraints l.table))

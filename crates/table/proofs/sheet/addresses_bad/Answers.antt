@@ -1,17 +1,10 @@
+use borrow.Author.Tests.{tests}
 use borrow.Author.Rules.{rules}
-use native.Mathlib.Omega.{arith}
-use Rattle.loops.proofs.Loop.{first-none, first_more}
-use Rattle.table.proofs.sheet.Laws.{addresses-found, addresses-done}
+use lib.ListN.{length}
+use Rattle.table.proofs.Any.{by_any}
+use Rattle.table.specs.Sheet.{address_bad, addresses_bad}
 use Rattle.table.proofs.sheet.addresses_bad.Goals as goal
 
-pub loop-i-init : goal.loop-i-init
-loop-i-init c = (omega arith, first-none _)
-
-pub returns-then-address_bad : goal.returns-then-address_bad
-returns-then-address_bad c = search (rules, addresses-found)
-
-pub loop-i-preserved : goal.loop-i-preserved
-loop-i-preserved c = (omega arith, search (rules, first_more))
-
 pub returns : goal.returns
-returns c = search (rules, addresses-done)
+unfolding addresses_bad
+returns c = by_any (address_bad c.args.addrs.now c.args.w) (length c.args.addrs.now) _ _ _ c.any.ensures.ran (λ x b q k. search (rules, tests))

@@ -1,17 +1,15 @@
+use mathlib.Core.Path.{◌∙◌}
+use borrow.Author.Tests.{tests}
 use borrow.Author.Rules.{rules}
-use native.Mathlib.Omega.{arith}
-use Rattle.loops.proofs.Loop.{first-none, first_done}
-use Rattle.table.proofs.sheet.Laws.{find-found, find-more}
+use lib.Dec.{eqb}
+use Rattle.std.proofs.lemmas.Iterator.{YieldsList-from_slice}
+use Rattle.std.proofs.lemmas.Iterator.Search.{position_from_yields_List}
+use Rattle.loops.proofs.Search.{position_found}
+use Rattle.table.specs.Sheet.{is_at}
 use Rattle.table.proofs.sheet.find.Goals as goal
 
-pub loop-j-init : goal.loop-j-init
-loop-j-init c = (omega arith, first-none _)
-
-pub returns-then-addrs-j : goal.returns-then-addrs-j
-returns-then-addrs-j c = search (rules, find-found)
-
-pub loop-j-preserved : goal.loop-j-preserved
-loop-j-preserved c = (omega arith, search (rules, find-more))
-
 pub returns : goal.returns
-returns c = search (rules, first_done)
+unfolding is_at
+returns c =
+    position_from_yields_List (λ y. eqb y c.args.x) _ _ c.position.result c.position.ensures.ran (YieldsList-from_slice c.args.addrs.now cc) (λ x b q k. search (rules, tests))
+    ∙ position_found (λ y. eqb y c.args.x) c.args.addrs.now 0

@@ -1,12 +1,7 @@
 use mathlib.Core.Path.{◌≡◌}
-use Prim.Native.Nat.{◌≤◌, ◌-◌}
 use Rattle.loops.specs.Loop.{first}
-use Rattle.table.specs.Node.{nodes}
 use Rattle.table.specs.Sheet.{node_bad}
 use Rattle.table.proofs.sheet.nodes_fault.Given as goal
 
 abbrev pub invariant-loop-i : goal.invariant-loop-i
-invariant-loop-i l = (l.i ≤ nodes l.table) × (l.i ≡ first l.i (node_bad l.table l.w))
-
-abbrev pub decreases-loop-i : goal.decreases-loop-i
-decreases-loop-i l = nodes l.table - l.i
+invariant-loop-i l = l.i ≡ first l.i (node_bad l.table l.w)
