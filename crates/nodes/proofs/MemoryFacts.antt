@@ -15,7 +15,7 @@ use Rattle.table.specs.Kind.{READ, WRITE, uses_a, uses_b, uses_c}
 use Rattle.table.specs.Node.{width_of}
 use Rattle.table.proofs.Whole.{within, Sound, Rule, is-const, is-input, is_state, is-op, is-bad, is-ext, is-ite, is-divu, is-rem, is_read, is-write, is-sext}
 use Rattle.netlist.specs.Net.{Net}
-use Rattle.gates.specs.declared.made.At.{At}
+use Rattle.gates.specs.declared.list.GateList.{GateList}
 use Rattle.gates.specs.Made.{Fits}
 use Rattle.words.specs.Num.{blank}
 use Rattle.words.specs.Each.{Word, word_of, copy_step, put_bits}
@@ -38,14 +38,14 @@ use Rattle.nodes.proofs.Facts.{place-within, offset, words-turn, share-turn, wor
 
 -- the path of a read
 pub read-path : (addrs : List ℕ) (mem adr to w : ℕ) (g g' word map map' : List ℕ) (n n' : At)
-    → word_of g' n' word ≡ read_words (length addrs) w addrs (take (mem + length addrs * w - mem) (drop mem map)) (take (adr + w - adr) (drop adr map)) (word_of g n blank)
-    → map' ≡ put_bits to word w map → word_of g' n' map' ≡ placed to w (reading addrs mem adr w) 0 (word_of g n map)
+    → word_of t' word ≡ read_words (length addrs) w addrs (take (mem + length addrs * w - mem) (drop mem map)) (take (adr + w - adr) (drop adr map)) (word_of t blank)
+    → map' ≡ put_bits to word w map → word_of t' map' ≡ placed to w (reading addrs mem adr w) 0 (word_of t map)
 unfolding placed reading
 read-path addrs mem adr to w g g' word map map' n n' e h =
     let y : mem + length addrs * w - mem ≡ length addrs * w = omega arith in
     let z : adr + w - adr ≡ w = omega arith in
     let q : to + 0 * w ≡ to = omega arith in
-    rw q (ap {B = Word} (λ l. word_of g' n' l) h ∙ ap {B = Word} (λ (x : Word). as_is x.net (put_bits to x.out w map)) (rw (y, z) at e))
+    rw q (ap {B = Word} (λ l. word_of t' l) h ∙ ap {B = Word} (λ (x : Word). as_is x.net (put_bits to x.out w map)) (rw (y, z) at e))
 
 -- a word of the map, copied to scratch
 pub scratch-long : (w : ℕ) (bits scratch : List ℕ) → w ≤ 64 → scratch ≡ put_bits 0 bits w blank → w ≡ length (take w scratch)
@@ -78,13 +78,13 @@ part-back to bits map n fits long =
 pub write-path : (addrs : List ℕ) (old adr val to w : ℕ) (g g' map shared part address value : List ℕ) (n n' : At) → w ≤ 64 → adr + w ≤ length map → val + w ≤ length map
     → to + length addrs * w ≤ length shared → address ≡ put_bits 0 (take (adr + w - adr) (drop adr map)) w blank → value ≡ put_bits 0 (take (val + w - val) (drop val map)) w blank
     → shared ≡ iter (length addrs) (share_at 0 old w to w) map
-    → word_of g' n' part ≡ write_words (length addrs) w addrs (take w address) (take w value) (word_of g n (take (to + length addrs * w - to) (drop to shared)))
+    → word_of t' part ≡ write_words (length addrs) w addrs (take w address) (take w value) (word_of t (take (to + length addrs * w - to) (drop to shared)))
     → length part ≡ to + length addrs * w - to
-    → word_of g' n' (take to shared ++ (part ++ drop (to + length addrs * w - to) (drop to shared))) ≡ write_at addrs old adr val to w (word_of g n map)
+    → word_of t' (take to shared ++ (part ++ drop (to + length addrs * w - to) (drop to shared))) ≡ write_at addrs old adr val to w (word_of t map)
 unfolding write_at
 write-path addrs old adr val to w g g' map shared part address value n n' small fa fv ft ea ev es e long =
     let z : to + length addrs * w - to ≡ length addrs * w = omega arith in
-    let q : word_of g' n' part ≡ write_words (length addrs) w addrs (take w (drop adr map)) (take w (drop val map)) (word_of g n (take (length addrs * w) (drop to shared))) =
+    let q : word_of t' part ≡ write_words (length addrs) w addrs (take w (drop adr map)) (take w (drop val map)) (word_of t (take (length addrs * w) (drop to shared))) =
     rw (z, copied w adr map address small fa ea, copied w val map value small fv ev) at e in
     rw (z, part-back to part shared (length addrs * w) ft (long ∙ z), ← es)
     (ap {B = Word} (λ (x : Word). as_is x.net (put_bits to x.out (length addrs * w) shared)) q)
@@ -113,14 +113,14 @@ access (is-divu e s) = neither (inl (omega arith))
 access (is-rem e s) = neither (inl (omega arith))
 
 -- what both ask for, over a memory of n words from `mem` on and an address from `adr` on: a word's access costs so many gates a bit, less one
-pub record Accesses (cost : ℕ) (g : List ℕ) (a : At) (long n mem adr : ℕ) (p : Place) : Type 0 where
-  pub room : Fits g a (n * (cost * p.wide - 1))
+pub record Accesses (cost : ℕ) (t : GateList) (long n mem adr : ℕ) (p : Place) : Type 0 where
+  pub room : Fits t (n * (cost * p.wide - 1))
   pub some : 1 ≤ p.wide
   pub small : p.wide ≤ 64
   pub mem-within : mem + n * p.wide ≤ long
   pub adr-within : adr + p.wide ≤ long
 
-module _ (S : Source) (o g : List ℕ) (a : At) (long k : ℕ) (h : Makes S o g a long k) where
+module _ (S : Source) (o : List ℕ) (t : GateList) (long k : ℕ) (h : Makes S o t long k) where
   node : Sound S.table S.word k
   node = sound-of S h.stands.clear k h.stands.is
 
@@ -146,7 +146,7 @@ module _ (S : Source) (o g : List ℕ) (a : At) (long k : ℕ) (h : Makes S o g 
 
   accesses : (cost : ℕ) → gates_of S k ≡ listed S * (cost * S.word - 1) → wide_of S k ≡ S.word → uses_a (node_of S k).kind ≡ true → uses_b (node_of S k).kind ≡ true
       → width_of S.table (node_of S k).a ≡ 0 → width_of S.table (node_of S k).b ≡ S.word
-      → Accesses cost g a long (listed S) (off_of S (node_of S k).a) (off_of S (node_of S k).b) (place_of S k)
+      → Accesses cost t long (listed S) (off_of S (node_of S k).a) (off_of S (node_of S k).b) (place_of S k)
   accesses cost e v ua ub va vb =
       record {
         room = rw v (omega (arith, h.room, e));
@@ -175,7 +175,7 @@ module _ (S : Source) (o g : List ℕ) (a : At) (long k : ℕ) (h : Makes S o g 
       rule : ((node_of S k).width ≡ S.word) × (width_of S.table (node_of S k).a ≡ 0) × (width_of S.table (node_of S k).b ≡ S.word)
       rule = sorts.reads (is-as READ e)
 
-      pub read-asks : Accesses 4 g a long (listed S) (get_or o d.a 0) (get_or o d.b 0) p × (p.off + p.wide ≤ long)
+      pub read-asks : Accesses 4 t long (listed S) (get_or o d.a 0) (get_or o d.b 0) p × (p.off + p.wide ≤ long)
       read-asks =
           rw (q, a_at, b_at) (
             accesses 4 (read-gates S k h.stands.is.low (is-as READ e)) (wide_is k rule.0) (ap uses_a (is-as READ e)) (ap uses_b (is-as READ e)) rule.1 rule.2,
@@ -202,7 +202,7 @@ module _ (S : Source) (o g : List ℕ) (a : At) (long k : ℕ) (h : Makes S o g 
       own-wide : wide_of S k ≡ S.word
       own-wide = memory-wide S k ruled.0
 
-      pub write-asks : Accesses 5 g a long (listed S) (get_or o d.a 0) (get_or o d.b 0) p × (get_or o d.c 0 + p.wide ≤ long) × (p.off + listed S * p.wide ≤ long)
+      pub write-asks : Accesses 5 t long (listed S) (get_or o d.a 0) (get_or o d.b 0) p × (get_or o d.c 0 + p.wide ≤ long) × (p.off + listed S * p.wide ≤ long)
       write-asks =
           rw (q, a_at, b_at, c-at) (
             accesses 5 (write-gates S k h.stands.is.low (is-as WRITE e)) own-wide (ap uses_a (is-as WRITE e)) (ap uses_b (is-as WRITE e)) ruled.1 ruled.2,

@@ -15,7 +15,7 @@ use Rattle.table.proofs.Whole.{Sound, Rule, Extended, is-const, is-input, is_sta
 use Rattle.values.proofs.Seen.{initial}
 use Rattle.netlist.specs.Net.{Net}
 use Rattle.visits.specs.Flow.{Core}
-use Rattle.division.specs.declared.constraint.Counts.{Counts}
+use Rattle.division.specs.declared.lists.Lists.{Lists}
 use Rattle.nodes.specs.declared.place.Place.{Place}
 use Rattle.nodes.specs.Source.{Source, node_of, words_of, wide_of, off_of}
 use Rattle.nodes.specs.Own.{shares, each_word, input_word, share_word, above_of, read_word, word_own, ite_own, divide_own, write_own, own_step}
@@ -132,7 +132,7 @@ plainly d g h i v r w =
     record { given = g; shares = h; chooses = ne_eqb d.kind ITE i; divides = v; reads = ne_eqb d.kind READ r; writes = ne_eqb d.kind WRITE w }
 
 -- the room of a node's own gates
-pub makes : {S : Source} {o g c m : List ℕ} {k : ℕ} {p : Counts} → Owns S o k (core_of g c m p) → Makes S o g p.at (length m) k
+pub makes : {S : Source} {o m : List ℕ} {k : ℕ} {l : Lists} → Owns S o k (core_of l m) → Makes S o l.gates (length m) k
 makes h = record { stands = h.stands; room = (h.room, h.cap) }
 
 -- the own step of a division

@@ -9,9 +9,9 @@ use Rattle.table.specs.Sheet.{table_fault}
 use Rattle.table.specs.Size.{Offsets}
 use Rattle.netlist.specs.Net.{Net}
 use Rattle.netlist.specs.Record.{Room}
-use Rattle.gates.specs.declared.made.At.{At}
+use Rattle.gates.specs.declared.list.GateList.{GateList}
 use Rattle.gates.specs.Made.{net_of, Fits}
-use Rattle.division.specs.declared.constraint.Counts.{Counts}
+use Rattle.division.specs.declared.lists.Lists.{Lists}
 use Rattle.division.specs.Constraint.{con_used}
 use Rattle.visits.specs.Flow.{Core}
 use Rattle.visits.specs.Claims.{Is}
@@ -28,9 +28,9 @@ pub record Stands (S : Source) (o : List ℕ) (long k : ℕ) : Type 0 where
   pub mapped : long ≡ total_of S
 
 -- and room for its gates
-pub record Makes (S : Source) (o : List ℕ) (g : List ℕ) (a : At) (long k : ℕ) : Type 0 where
+pub record Makes (S : Source) (o : List ℕ) (l : GateList) (long k : ℕ) : Type 0 where
   pub stands : Stands S o long k
-  pub room : Fits g a (gates_of S k)
+  pub room : Fits l (gates_of S k)
 
 -- where the bits of node x stand
 abbrev pub place_of : Source → ℕ → Place
@@ -47,9 +47,9 @@ Turned f s m s' m' = (c : List ℕ) (nc : ℕ) → core_at s' c nc m' ≡ f (cor
 abbrev pub Mapped : (Core → Core) → List ℕ → List ℕ → Type 0
 Mapped f m m' = (s : Net) → Turned f s m s m'
 
--- the state that the buffers say, with the places of the next gate and the next constraint
-abbrev pub core_of : List ℕ → List ℕ → List ℕ → Counts → Core
-core_of g c m p = core_at (net_of g p.at) c p.m m
+-- the state that the two lists and the map say
+abbrev pub core_of : Lists → List ℕ → Core
+core_of l m = core_at (net_of l.gates) l.cons.pairs.now l.cons.m m
 
 -- node k of a table without fault, over that state, with room for its gates and its constraints
 pub record Owns (S : Source) (o : List ℕ) (k : ℕ) (s : Core) : Type 0 where

@@ -1,4 +1,5 @@
 pub mod Source
+pub mod Laid
 pub mod Own
 pub mod Place
 pub mod Recipe

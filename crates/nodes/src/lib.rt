@@ -6,7 +6,7 @@ pub mod divide; // a division
 pub mod input; // an input or an uninitialised state
 pub mod operand; // which operands are visited
 pub mod own; // a node's own step, by its kind
-pub mod place; // where a node's bits stand
+pub mod place; // a table, and where its nodes' bits stand
 pub mod plain; // the words that are made of two words
 pub mod read; // a read
 pub mod share; // what shares its operand's bits

@@ -1,12 +1,31 @@
-// Where a node's bits stand in the bit map.
+// A table that is lowered, and where its nodes' bits stand in the bit map.
 ghost use Rattle.std.specs.Prelude.{◌≡◌, ◌≤◌, length};
 ghost use Rattle.table.specs.declared.Unit.TheVariants.{Bit};
-ghost use Rattle.table.specs.Node.{nodes};
+ghost use Rattle.table.specs.Node.{nodes, node_at};
 ghost use Rattle.table.specs.Size.{Offsets};
-ghost use Rattle.nodes.specs.Source.{source};
+ghost use Rattle.nodes.specs.Laid.{source_of};
 ghost use Rattle.nodes.specs.Asked.{place_of};
 
-use table::field::width_at;
+use table::Node;
+use table::field::{node_at, width_at};
+
+// A table, its listed addresses and its word width, and where each node's bits begin.
+#[derive(Clone, Copy)]
+pub struct Laid<'a> {
+    pub table: &'a [u64],
+    pub addrs: &'a [u64],
+    pub word: u64,
+    pub offs: &'a [usize],
+}
+
+// Node k of such a table.
+#[derive(Clone, Copy)]
+pub struct Here<'a> {
+    pub laid: Laid<'a>,
+    pub k: usize,
+    pub node: Node,
+    ghost is: { node ≡ node_at laid.table.now k },
+}
 
 // So many words, each so wide, from an offset on.
 #[derive(Clone, Copy)]
@@ -16,23 +35,36 @@ pub struct Place {
     pub wide: usize,
 }
 
-// A word is one word, a memory one for each listed address.
-pub fn place_of(table: &[u64], addrs: &[u64], word: u64, offs: &[usize], x: usize) -> Place
-    requires { Offsets Bit table.now (length addrs.now) word offs.now × (x ≤ nodes table.now) }
-    ensures { result ≡ place_of (source table.now addrs.now word) x }
-{
-    let off = offs[x];
-    let width = width_at(table, x as u64);
-    if width == 0 {
-        return Place {
-            off,
-            words: addrs.len(),
-            wide: word as usize,
-        };
+impl<'a> Laid<'a> {
+    pub fn at(&self, k: usize) -> Here<'a>
+        ensures laid { result.laid ≡ self.now }
+        ensures k { result.k ≡ k }
+    {
+        Here {
+            laid: *self,
+            k,
+            node: node_at(self.table, k),
+        }
     }
-    Place {
-        off,
-        words: 1,
-        wide: width as usize,
+
+    // A word is one word, a memory one for each listed address.
+    pub fn place_of(&self, x: usize) -> Place
+        requires { Offsets Bit self.now.table.now (length self.now.addrs.now) self.now.word self.now.offs.now × (x ≤ nodes self.now.table.now) }
+        ensures { result ≡ place_of (source_of self.now) x }
+    {
+        let off = self.offs[x];
+        let width = width_at(self.table, x as u64);
+        if width == 0 {
+            return Place {
+                off,
+                words: self.addrs.len(),
+                wide: self.word as usize,
+            };
+        }
+        Place {
+            off,
+            words: 1,
+            wide: width as usize,
+        }
     }
 }

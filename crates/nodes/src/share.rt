@@ -1,12 +1,13 @@
 // An initialised state, a bad, an ext, a sext, an ite with a known condition: the operand's bits are shared.
 ghost use Rattle.std.specs.Prelude.{◌≡◌, ◌+◌, ◌*◌, ◌≤◌, ◌<◌, length};
 ghost use Rattle.loops.specs.Loop.{iter};
-ghost use Rattle.nodes.specs.Source.{source, words_of};
+ghost use Rattle.nodes.specs.Source.{words_of};
+ghost use Rattle.nodes.specs.Laid.{source_of};
 ghost use Rattle.nodes.specs.Own.{share_word, each_word};
 ghost use Rattle.nodes.specs.Place.{share_at};
 ghost use Rattle.nodes.specs.Asked.{Stands, Mapped};
 
-use crate::place::place_of;
+use crate::place::{Here, Place};
 use words::each;
 
 // Word i. It goes through a scratch word, in which copies of one bit stand above it.
@@ -20,50 +21,25 @@ fn share_word(above: u32, from: usize, v: usize, to: usize, w: usize, i: usize, 
     each::put_bits(map, to + i * w, &word, w);
 }
 
-// All words: those from `from` on are v wide, and go to the places from `to` on, w wide.
-pub fn share_words(
-    above: u32,
-    from: usize,
-    v: usize,
-    to: usize,
-    words: usize,
-    w: usize,
-    map: &mut [u32],
-)
-    requires { (v ≤ 64) × (w ≤ 64) × (from + words * v ≤ length map.old) × (to + words * w ≤ length map.old) }
-    ensures { map.new ≡ iter words (share_at above from v to w) map.old }
+// All words: those from `from` on are v wide.
+pub fn share_words(above: u32, from: usize, v: usize, to: Place, map: &mut [u32])
+    requires { (v ≤ 64) × (to.wide ≤ 64) × (from + to.words * v ≤ length map.old) × (to.off + to.words * to.wide ≤ length map.old) }
+    ensures { map.new ≡ iter to.words (share_at above from v to.off to.wide) map.old }
 {
-    let mut i = 0;
-    while i < words {
-        share_word(above, from, v, to, w, i, map);
-        i += 1;
+    for i in 0..to.words {
+        share_word(above, from, v, to.off, to.wide, i, map);
     }
 }
 
-// The own step of a node that shares the bits of node x, which has as many words; copies of the bit `above` stand above them.
-pub fn share_node(
-    table: &[u64],
-    addrs: &[u64],
-    word: u64,
-    offs: &[usize],
-    map: &mut [u32],
-    node: usize,
-    above: u32,
-    x: usize,
-)
-    requires stands { Stands (source table.now addrs.now word) offs.now (length map.old) node }
-    requires le_x { (1 ≤ x) × (x < node) × (words_of (source table.now addrs.now word) node ≡ words_of (source table.now addrs.now word) x) }
-    ensures { Mapped (each_word (source table.now addrs.now word) node (share_word (source table.now addrs.now word) above x)) map.old map.new }
-{
-    let place = place_of(table, addrs, word, offs, node);
-    let shared = place_of(table, addrs, word, offs, x);
-    share_words(
-        above,
-        shared.off,
-        shared.wide,
-        place.off,
-        place.words,
-        place.wide,
-        map,
-    );
+impl Here<'_> {
+    // The own step of a node that shares the bits of node x, which has as many words; copies of the bit `above` stand above them.
+    pub fn share_node(&self, map: &mut [u32], above: u32, x: usize)
+        requires stands { Stands (source_of self.now.laid) self.now.laid.offs.now (length map.old) self.now.k }
+        requires le_x { (1 ≤ x) × (x < self.now.k) × (words_of (source_of self.now.laid) self.now.k ≡ words_of (source_of self.now.laid) x) }
+        ensures { Mapped (each_word (source_of self.now.laid) self.now.k (share_word (source_of self.now.laid) above x)) map.old map.new }
+    {
+        let place = self.laid.place_of(self.k);
+        let shared = self.laid.place_of(x);
+        share_words(above, shared.off, shared.wide, place, map);
+    }
 }
