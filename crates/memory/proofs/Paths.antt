@@ -5,6 +5,10 @@ use mathlib.Core.Bool.{Bool, true, false}
 use Prim.Native.Nat.{ℕ, zero, suc, ◌+◌, ◌*◌, ◌-◌, ◌≤◌, ◌<◌}
 use native.Mathlib.Omega.{arith}
 use native.Mathlib.Nat.{mul-le-mul_right}
+use native.Mathlib.Decide.{dec_lt}
+use borrow.Rule.Slice.PartMut.{put_mid}
+use Rattle.std.proofs.lemmas.List.{take_all, length-take-le, length-drop}
+use lib.Seq.{get_or-set_same, get_or-set_other}
 use lib.ListN.{length, get_or, take, drop}
 use borrow.Author.Tests.{lt-ltb, le-ltb}
 use Rattle.loops.specs.Loop.{pick, iter}
@@ -19,16 +23,16 @@ use Rattle.digits.proofs.Words.{all_true}
 use Rattle.words.specs.declared.each.Bitwise.{Bitwise}
 use Rattle.words.specs.declared.each.Bitwise.TheVariants.{Or, AndWith, Choose}
 use Rattle.words.specs.Num.{blank}
-use Rattle.words.specs.Each.{Word, word_of, each_step, each_bit, each_cost, put_bits}
+use Rattle.words.specs.Each.{Word, word_of, bitwise, each_step, each_bit, each_cost, copy_step, put_bits}
 use Rattle.words.specs.Eq.{eq_words, eq_cost}
 use Rattle.words.proofs.NumLaws.{blank-long}
-use Rattle.words.proofs.EachLaws.{ors-cost, choose-cost}
+use Rattle.words.proofs.EachLaws.{ors-cost, choose-cost, each_long, put-mid}
 use Rattle.words.proofs.EqLaws.{eq-left}
 use Rattle.words.proofs.MulStep.{row-cost}
 use Rattle.words.proofs.Paths.{each-most}
 use Rattle.memory.specs.Address.{part, listed_at, at_listed}
 use Rattle.memory.specs.Read.{cleared, read_known, read_one, read_step, read_words}
-use Rattle.memory.specs.Write.{write_known, write_step, write_words}
+use Rattle.memory.specs.Write.{write_known, write_one, write_step, write_words}
 use Rattle.memory.proofs.AddressLaws.{digits-known, at-ext}
 use Rattle.memory.proofs.ReadLaws.{put_low, one-ext}
 use Rattle.memory.proofs.WriteLaws.{step-ext}
@@ -94,20 +98,65 @@ unfolding read_step
 read-step-path w i addrs mem adr s x e = let p : i * w + w - i * w ≡ w = omega arith in rw p at e
 
 -- Write at one listed address
-module _ (w i : ℕ) (addrs adr val : List ℕ) (t t₁ : GateList) (b : ℕ) (big : 1 ≤ w) (small : w ≤ 64) (p : made_of t₁ b ≡ at_listed w (get_or addrs i 0) adr (net_of t)) where
-  pub choose-room : (mem : List ℕ) → t₁.n + each_cost (Choose b) val (take (i * w + w - i * w) (drop (i * w) mem)) w ≤ t.n + (5 * w - 1)
-  choose-room mem = omega (arith, at_most w (get_or addrs i 0) adr (net_of t) t₁ b big small p, choose-cost b val (take (i * w + w - i * w) (drop (i * w) mem)) w)
+module _ (w a : ℕ) (adr val : List ℕ) (t t₁ : GateList) (b : ℕ) (p : made_of t₁ b ≡ at_listed w a adr (net_of t)) (word : List ℕ) where
+  pub choose-room : 1 ≤ w → w ≤ 64 → t₁.n + each_cost (Choose b) val word w ≤ t.n + (5 * w - 1)
+  choose-room big small = omega (arith, at_most w a adr (net_of t) t₁ b big small p, choose-cost b val word w)
 
-  pub write-step-path : (mem mem' : List ℕ) (t₂ : GateList) (word : List ℕ) → word_of t₂ word ≡ each_bit (Choose b) val (take (i * w + w - i * w) (drop (i * w) mem)) w (word_of t₁ blank)
-      → mem' ≡ put_bits (i * w) word w mem → word_of t₂ mem' ≡ write_step w addrs adr val i (word_of t mem)
-  unfolding write_step
-  write-step-path mem mem' t₂ word q r =
-      let z : i * w + w - i * w ≡ w = omega arith in
-      ap {B = Word} (λ o. word_of t₂ o) r
-      ∙ (ap put (rw z at q) ∙ ap (λ (m : MadeBit). put (each_bit (Choose m.bit) val (part i w mem) w (record { net = m.net; out = blank }))) p)
+  pub write-one-path : (x : Word) → x ≡ each_bit (Choose b) val word w (word_of t₁ word) → x ≡ write_one w a adr val (word_of t word)
+  unfolding write_one
+  write-one-path x q = q ∙ ap (λ (m : MadeBit). each_bit (Choose m.bit) val word w (record { net = m.net; out = word })) p
+
+-- a word made over any other is the same
+module _ (op : Bitwise) (left right : List ℕ) (s : Net) (o o' : List ℕ) where
+  abbrev over : List ℕ → ℕ → Word
+  over l w = each_bit op left right w (record { net = s; out = l })
+
+  record Alike (w : ℕ) : Type 0 where
+    net : (over o w).net ≡ (over o' w).net
+    at : (j : ℕ) → j < w → get_or (over o w).out j 0 ≡ get_or (over o' w).out j 0
+
+  alike-step : (w : ℕ) → w < length o → w < length o' → Alike w → Alike (suc w)
+  unfolding iter each_step
+  alike-step w h k r = record { net = ap (λ (n : Net). (made n).net) r.net; at = λ j l. one j l (dec_lt j w) }
     where
-      put : Word → Word
-      put x = record { net = x.net; out = put_bits (i * w) x.out w mem }
+      made : Net → MadeBit
+      made n = bitwise op n (get_or left w 0) (get_or right w 0)
+
+      one : (j : ℕ) → j < suc w → Dec (j < w) → get_or (over o (suc w)).out j 0 ≡ get_or (over o' (suc w)).out j 0
+      one j l (yes m) = get_or-set_other (over o w).out w j _ 0 (omega arith) ∙ (r.at j m ∙ sym (get_or-set_other (over o' w).out w j _ 0 (omega arith)))
+      one j l (no m) =
+          let q : j ≡ w = omega arith in
+          rw q
+          (get_or-set_same (over o w).out w _ 0 (omega (arith, each_long op left right (record { net = s; out = o }) w))
+          ∙ (ap (λ (n : Net). (made n).bit) r.net ∙ sym (get_or-set_same (over o' w).out w _ 0 (omega (arith, each_long op left right (record { net = s; out = o' }) w)))))
+
+  each_alike : (w : ℕ) → w ≤ length o → w ≤ length o' → Alike w
+  unfolding iter
+  each_alike zero h k = record { net = refl; at = λ j l. absurd (omega arith) }
+  each_alike (suc w) h k = alike-step w (omega arith) (omega arith) (each_alike w (omega arith) (omega arith))
+
+put_same : (from : ℕ) (bits bits' map : List ℕ) (w : ℕ) → ((j : ℕ) → j < w → get_or bits j 0 ≡ get_or bits' j 0) → put_bits from bits w map ≡ put_bits from bits' w map
+unfolding iter copy_step
+put_same from bits bits' map zero h = refl
+put_same from bits bits' map (suc w) h = rw (put_same from bits bits' map w (λ j l. h j (omega arith)), h w (omega arith))
+
+-- word i of the memory lent to it
+module _ (w i : ℕ) (addrs adr val mem : List ℕ) (small : w ≤ 64) (fits : i * w + w ≤ length mem) where
+  pub write-step-path : (t t' : GateList) (word : List ℕ) → word_of t' word ≡ write_one w (get_or addrs i 0) adr val (word_of t (take (i * w + w - i * w) (drop (i * w) mem)))
+      → word_of t' (put_mid (i * w) (i * w + w - i * w) mem word) ≡ write_step w addrs adr val i (word_of t mem)
+  unfolding write_one write_step
+  write-step-path t t' word e =
+      let z : i * w + w - i * w ≡ w = omega arith in
+      let q : MadeBit = at_listed w (get_or addrs i 0) adr (net_of t) in
+      let d : length (part i w mem) ≡ w = length-take-le w (drop (i * w) mem) (omega (arith, length-drop (i * w) mem)) in
+      let x : Word = each_bit (Choose q.bit) val (part i w mem) w (record { net = q.net; out = part i w mem }) in
+      let r : word_of t' word ≡ x = rw z at e in
+      let l : length word ≡ w = ap (λ (y : Word). length y.out) r ∙ (each_long (Choose q.bit) val (part i w mem) (record { net = q.net; out = part i w mem }) w ∙ d) in
+      let k : Alike (Choose q.bit) val (part i w mem) q.net (part i w mem) blank w =
+      each_alike (Choose q.bit) val (part i w mem) q.net (part i w mem) blank w (omega (arith, d)) (omega (arith, blank-long)) in
+      ap {B = Word} (λ o. word_of t' o) (put-mid (i * w) word mem word w (i * w + w - i * w) fits (omega (arith, l)) z (sym (take_all w word (omega (arith, l)))))
+      ∙ (ap {B = Word} (λ (y : Word). record { net = y.net; out = put_bits (i * w) y.out w mem }) r
+      ∙ rw (k.net, put_same (i * w) x.out (each_bit (Choose q.bit) val (part i w mem) w (record { net = q.net; out = blank })).out mem w k.at))
 
 -- a loop over the listed addresses, each at most k gates
 module _ (f : ℕ → Word → Word) (k : ℕ) (ext : (i : ℕ) (s : Word) → Ext s.net (f i s).net k) where

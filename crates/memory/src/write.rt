@@ -2,7 +2,7 @@
 ghost use Rattle.std.specs.Prelude.{◌≡◌, ◌+◌, ◌*◌, ◌-◌, ◌≤◌, ◌<◌, length};
 ghost use Rattle.gates.specs.Made.{Fits, SameList};
 ghost use Rattle.words.specs.Each.{word_of};
-ghost use Rattle.memory.specs.Write.{write_known, write_step, write_words};
+ghost use Rattle.memory.specs.Write.{write_known, write_one, write_words};
 
 use crate::address;
 use gates::list::GateList;
@@ -22,34 +22,15 @@ fn write_known(addrs: &[u64], a: u64, val: &[u32], w: usize, mem: &mut [u32])
     }
 }
 
-// Write at the listed address of word i: the value, or the old word.
-fn write_step(
-    list: &mut GateList,
-    addrs: &[u64],
-    adr: &[u32],
-    val: &[u32],
-    w: usize,
-    mem: &mut [u32],
-    i: usize,
-)
+// Write at one listed address, a, whose word is given: it becomes the value, or stays.
+fn write_one(list: &mut GateList, a: u64, adr: &[u32], val: &[u32], w: usize, word: &mut [u32])
     requires fits { Fits list.old (5 * w - 1) }
-    requires le_w { (1 ≤ w) × (w ≤ 64) × (w ≤ length adr.now) × (w ≤ length val.now) }
-    requires i_in_bounds { (i < length addrs.now) × (i * w + w ≤ length mem.old) }
+    requires le_w { (1 ≤ w) × (w ≤ 64) × (w ≤ length adr.now) × (w ≤ length val.now) × (w ≤ length word.old) }
     ensures same { SameList list.old list.new }
-    ensures made { word_of list.new mem.new ≡ write_step w addrs.now adr.now val.now i (word_of list.old mem.old) }
+    ensures made { word_of list.new word.new ≡ write_one w a adr.now val.now (word_of list.old word.old) }
 {
-    let equal = address::at_listed(list, addrs[i], adr, w);
-    let from = i * w;
-    let mut word = [0u32; 65];
-    each::each_bit(
-        list,
-        Bitwise::Choose(equal),
-        val,
-        &mem[from..from + w],
-        w,
-        &mut word,
-    );
-    each::put_bits(mem, from, &word, w);
+    let equal = address::at_listed(list, a, adr, w);
+    each::each_onto(list, Bitwise::Choose(equal), val, w, word);
 }
 
 // A word of w bits written to the memory at an address: where that is not known, every listed word may be the one.
@@ -73,6 +54,7 @@ pub fn write_words(
         return;
     }
     for i in 0..addrs.len() {
-        write_step(list, addrs, adr, val, w, mem, i);
+        let from = i * w;
+        write_one(list, addrs[i], adr, val, w, &mut mem[from..from + w]);
     }
 }

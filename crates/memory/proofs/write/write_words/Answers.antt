@@ -2,7 +2,8 @@ use borrow.Author.Rules.{rules}
 use native.Mathlib.Omega.{arith}
 use Rattle.words.specs.Each.{word_of}
 use Rattle.loops.proofs.Loop.{loop-none, loop-more}
-use Rattle.memory.proofs.Paths.{known-below, writes-room, write-at-known, write-at-other}
+use Rattle.memory.proofs.AddressLaws.{word_end}
+use Rattle.memory.proofs.Paths.{known-below, writes-room, write-step-path, write-at-known, write-at-other}
 use Rattle.memory.proofs.write.write_words.Goals as goal
 
 pub known_number-a-requires-clause-below : goal.known_number-a-requires-clause-below
@@ -14,8 +15,8 @@ returns-then-all_known-clause-made c = search (rules, write-at-known)
 pub loop-i-init : goal.loop-i-init
 loop-i-init c = search (rules, loop-none)
 
-pub write_step-requires-clause-fits : goal.write_step-requires-clause-fits
-write_step-requires-clause-fits c =
+pub write_one-requires-clause-fits : goal.write_one-requires-clause-fits
+write_one-requires-clause-fits c =
     omega (
       arith,
       writes-room c.args.w c.args.addrs.now c.args.adr.now c.args.val.now c.requires.le_w.0 c.requires.le_w.1 (word_of c.args.list.now c.args.mem.now) c.loop-i.list _ c.loop-i.i
@@ -24,7 +25,12 @@ write_step-requires-clause-fits c =
     )
 
 pub loop-i-preserved : goal.loop-i-preserved
-loop-i-preserved c = search (rules, loop-more)
+loop-i-preserved c =
+    search (
+      rules,
+      loop-more,
+      write-step-path c.args.w c.loop-i.i c.args.addrs.now c.args.adr.now c.args.val.now c.loop-i.mem c.requires.le_w.1 (omega (arith, word_end _ _ c.args.w c.loop-i-test.true, c.requires)),
+    )
 
 pub returns-clause-made : goal.returns-clause-made
 returns-clause-made c = search (rules, write-at-other)
