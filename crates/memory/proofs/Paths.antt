@@ -7,7 +7,7 @@ use native.Mathlib.Omega.{arith}
 use native.Mathlib.Nat.{mul-le-mul_right}
 use native.Mathlib.Decide.{dec_lt}
 use borrow.Rule.Slice.PartMut.{put_mid}
-use Rattle.std.proofs.lemmas.List.{take_all, length-take-le, length-drop}
+use Rattle.std.proofs.lemmas.List.{ext_get_or, take_all, length-take-le, length-drop}
 use lib.Seq.{get_or-set_same, get_or-set_other}
 use lib.ListN.{length, get_or, take, drop}
 use borrow.Author.Tests.{lt-ltb, le-ltb}
@@ -23,10 +23,10 @@ use Rattle.digits.proofs.Words.{all_true}
 use Rattle.words.specs.declared.each.Bitwise.{Bitwise}
 use Rattle.words.specs.declared.each.Bitwise.TheVariants.{Or, AndWith, Choose}
 use Rattle.words.specs.Num.{blank}
-use Rattle.words.specs.Each.{Word, word_of, bitwise, each_step, each_bit, each_cost, copy_step, put_bits}
+use Rattle.words.specs.Each.{Word, word_of, bitwise, each_step, each_bit, each_cost, copy_step, put_bits, Put}
 use Rattle.words.specs.Eq.{eq_words, eq_cost}
 use Rattle.words.proofs.NumLaws.{blank-long}
-use Rattle.words.proofs.EachLaws.{ors-cost, choose-cost, each_long, put-mid}
+use Rattle.words.proofs.EachLaws.{ors-cost, choose-cost, each_long, each-rest, put-law, put-mid}
 use Rattle.words.proofs.EqLaws.{eq-left}
 use Rattle.words.proofs.MulStep.{row-cost}
 use Rattle.words.proofs.Paths.{each-most}
@@ -68,44 +68,6 @@ module _ (n w : ℕ) (addrs val : List ℕ) (a i : ℕ) (mem mem' : List ℕ) (e
   unfolding write_known pick
   write-unlisted l = rw (← e, le-ltb i n l)
 
--- the bits of a word that are looked at decide
-each_same : (op : Bitwise) (left left' right : List ℕ) (s : Word) (w : ℕ) → ((j : ℕ) → j < w → get_or left j 0 ≡ get_or left' j 0) → each_bit op left right w s ≡ each_bit op left' right w s
-unfolding iter each_step
-each_same op left left' right s zero h = refl
-each_same op left left' right s (suc w) h = rw (each_same op left left' right s w (λ j l. h j (omega arith)), h w (omega arith))
-
--- Read at one listed address
-module _ (w a : ℕ) (word adr : List ℕ) (t t₁ : GateList) (b : ℕ) (big : 1 ≤ w) (small : w ≤ 64) (p : made_of t₁ b ≡ at_listed w a adr (net_of t)) where
-  pub ands-room : t₁.n + each_cost (AndWith b) word word w ≤ t.n + (4 * w - 1)
-  ands-room = omega (arith, at_most w a adr (net_of t) t₁ b big small p, row-cost word b w)
-
-  module _ (t₂ : GateList) (ands : List ℕ) (q : word_of t₂ ands ≡ each_bit (AndWith b) word word w (word_of t₁ blank)) (out old : List ℕ) (r : old ≡ put_bits 0 out w blank) where
-    pub ors-room : t₂.n + each_cost Or old ands w ≤ t.n + (4 * w - 1)
-    ors-room =
-        omega (arith, at_most w a adr (net_of t) t₁ b big small p, row-cost word b w, ors-cost old ands w, each-most (AndWith b) word word (word_of t₁ blank) t₂ ands w q)
-
-    pub read-one-path : (x : Word) → x ≡ each_bit Or old ands w (word_of t₂ out) → x ≡ read_one w a word adr (word_of t out)
-    unfolding read_one
-    read-one-path x u =
-        u ∙ (each_same Or old out ands (word_of t₂ out) w (λ j l. rw r (put_low out blank w (omega (arith, blank-long)) j l))
-        ∙ (ap ors q ∙ ap (λ (m : MadeBit). ors (each_bit (AndWith m.bit) word word w (record { net = m.net; out = blank }))) p))
-      where
-        ors : Word → Word
-        ors y = each_bit Or out y.out w (record { net = y.net; out = out })
-
-pub read-step-path : (w i : ℕ) (addrs mem adr : List ℕ) (s x : Word) → x ≡ read_one w (get_or addrs i 0) (take (i * w + w - i * w) (drop (i * w) mem)) adr s → x ≡ read_step w addrs mem adr i s
-unfolding read_step
-read-step-path w i addrs mem adr s x e = let p : i * w + w - i * w ≡ w = omega arith in rw p at e
-
--- Write at one listed address
-module _ (w a : ℕ) (adr val : List ℕ) (t t₁ : GateList) (b : ℕ) (p : made_of t₁ b ≡ at_listed w a adr (net_of t)) (word : List ℕ) where
-  pub choose-room : 1 ≤ w → w ≤ 64 → t₁.n + each_cost (Choose b) val word w ≤ t.n + (5 * w - 1)
-  choose-room big small = omega (arith, at_most w a adr (net_of t) t₁ b big small p, choose-cost b val word w)
-
-  pub write-one-path : (x : Word) → x ≡ each_bit (Choose b) val word w (word_of t₁ word) → x ≡ write_one w a adr val (word_of t word)
-  unfolding write_one
-  write-one-path x q = q ∙ ap (λ (m : MadeBit). each_bit (Choose m.bit) val word w (record { net = m.net; out = word })) p
-
 -- a word made over any other is the same
 module _ (op : Bitwise) (left right : List ℕ) (s : Net) (o o' : List ℕ) where
   abbrev over : List ℕ → ℕ → Word
@@ -135,10 +97,59 @@ module _ (op : Bitwise) (left right : List ℕ) (s : Net) (o o' : List ℕ) wher
   each_alike zero h k = record { net = refl; at = λ j l. absurd (omega arith) }
   each_alike (suc w) h k = alike-step w (omega arith) (omega arith) (each_alike w (omega arith) (omega arith))
 
+  -- made elsewhere and then put there, or made there
+  put-alike : (w : ℕ) → w ≤ length o → w ≤ length o' → put_bits 0 (over o' w).out w o ≡ (over o w).out
+  put-alike w h k =
+      let m : Put 0 (over o' w).out o w (put_bits 0 (over o' w).out w o) = put-law 0 (over o' w).out o w (omega arith) in
+      ext_get_or 0 _ _ (m.long ∙ sym (each_long op left right (record { net = s; out = o }) w)) (λ i l. go m i (dec_lt i w))
+    where
+      go : Put 0 (over o' w).out o w (put_bits 0 (over o' w).out w o) → (i : ℕ) → Dec (i < w) → get_or (put_bits 0 (over o' w).out w o) i 0 ≡ get_or (over o w).out i 0
+      go m i (yes l) = put_low (over o' w).out o w h i l ∙ sym ((each_alike w h k).at i l)
+      go m i (no l) = m.above i (omega arith) ∙ sym (each-rest op left right (record { net = s; out = o }) w i (omega arith))
+
 put_same : (from : ℕ) (bits bits' map : List ℕ) (w : ℕ) → ((j : ℕ) → j < w → get_or bits j 0 ≡ get_or bits' j 0) → put_bits from bits w map ≡ put_bits from bits' w map
 unfolding iter copy_step
 put_same from bits bits' map zero h = refl
 put_same from bits bits' map (suc w) h = rw (put_same from bits bits' map w (λ j l. h j (omega arith)), h w (omega arith))
+
+-- Read at one listed address
+module _ (w a : ℕ) (word adr : List ℕ) (t t₁ : GateList) (b : ℕ) (big : 1 ≤ w) (small : w ≤ 64) (p : made_of t₁ b ≡ at_listed w a adr (net_of t)) where
+  pub ands-room : t₁.n + each_cost (AndWith b) word word w ≤ t.n + (4 * w - 1)
+  ands-room = omega (arith, at_most w a adr (net_of t) t₁ b big small p, row-cost word b w)
+
+  module _ (t₂ : GateList) (ands : List ℕ) (q : word_of t₂ ands ≡ each_bit (AndWith b) word word w (word_of t₁ blank)) (out : List ℕ) where
+    pub ors-room : t₂.n + each_cost Or out ands w ≤ t.n + (4 * w - 1)
+    ors-room =
+        omega (arith, at_most w a adr (net_of t) t₁ b big small p, row-cost word b w, ors-cost out ands w, each-most (AndWith b) word word (word_of t₁ blank) t₂ ands w q)
+
+    pub read-one-path : (fits : w ≤ length out) (t₃ : GateList) (made out' : List ℕ) → word_of t₃ made ≡ each_bit Or out ands w (word_of t₂ ands) → out' ≡ put_bits 0 made w out
+        → word_of t₃ out' ≡ read_one w a word adr (word_of t out)
+    unfolding read_one
+    read-one-path fits t₃ made out' u v =
+        let l : w ≤ length ands = omega (arith, ap (λ (y : Word). length y.out) q, each_long (AndWith b) word word (word_of t₁ blank) w, blank-long) in
+        let x : Word = each_bit Or out ands w (word_of t₂ ands) in
+        let r : record { net = x.net; out = put_bits 0 x.out w out } ≡ each_bit Or out ands w (word_of t₂ out) =
+        rw (put-alike Or out ands (net_of t₂) out ands w fits l, (each_alike Or out ands (net_of t₂) out ands w fits l).net) in
+        ap {B = Word} (λ o. word_of t₃ o) v
+        ∙ (ap {B = Word} (λ (y : Word). record { net = y.net; out = put_bits 0 y.out w out }) u
+        ∙ (r
+        ∙ (ap ors q ∙ ap (λ (m : MadeBit). ors (each_bit (AndWith m.bit) word word w (record { net = m.net; out = blank }))) p)))
+      where
+        ors : Word → Word
+        ors y = each_bit Or out y.out w (record { net = y.net; out = out })
+
+pub read-step-path : (w i : ℕ) (addrs mem adr : List ℕ) (s x : Word) → x ≡ read_one w (get_or addrs i 0) (take (i * w + w - i * w) (drop (i * w) mem)) adr s → x ≡ read_step w addrs mem adr i s
+unfolding read_step
+read-step-path w i addrs mem adr s x e = let p : i * w + w - i * w ≡ w = omega arith in rw p at e
+
+-- Write at one listed address
+module _ (w a : ℕ) (adr val : List ℕ) (t t₁ : GateList) (b : ℕ) (p : made_of t₁ b ≡ at_listed w a adr (net_of t)) (word : List ℕ) where
+  pub choose-room : 1 ≤ w → w ≤ 64 → t₁.n + each_cost (Choose b) val word w ≤ t.n + (5 * w - 1)
+  choose-room big small = omega (arith, at_most w a adr (net_of t) t₁ b big small p, choose-cost b val word w)
+
+  pub write-one-path : (x : Word) → x ≡ each_bit (Choose b) val word w (word_of t₁ word) → x ≡ write_one w a adr val (word_of t word)
+  unfolding write_one
+  write-one-path x q = q ∙ ap (λ (m : MadeBit). each_bit (Choose m.bit) val word w (record { net = m.net; out = word })) p
 
 -- word i of the memory lent to it
 module _ (w i : ℕ) (addrs adr val mem : List ℕ) (small : w ≤ 64) (fits : i * w + w ≤ length mem) where

@@ -35,10 +35,8 @@ fn read_one(list: &mut GateList, a: u64, word: &[u32], adr: &[u32], w: usize, ou
     let equal = address::at_listed(list, a, adr, w);
     let mut ands = [0u32; 65];
     each::each_bit(list, Bitwise::AndWith(equal), word, word, w, &mut ands);
-    // the result so far, apart from the place that is written
-    let mut old = [0u32; 65];
-    each::put_bits(&mut old, 0, out, w);
-    each::each_bit(list, Bitwise::Or, &old, &ands, w, out);
+    each::each_onto(list, Bitwise::Or, out, w, &mut ands);
+    each::put_bits(out, 0, &ands, w);
 }
 
 // The word of w bits that a memory has at an address: where that is not known, every listed word takes part.
