@@ -2,7 +2,7 @@
 ghost use Rattle.std.specs.Prelude.{◌≡◌, ◌+◌, ◌*◌, ◌-◌, ◌≤◌, ◌<◌, length};
 ghost use Rattle.gates.specs.Made.{Fits, SameList};
 ghost use Rattle.words.specs.Each.{word_of};
-ghost use Rattle.memory.specs.Read.{read_known, read_one, read_words};
+ghost use Rattle.memory.specs.Read.{cleared, read_known, read_one, read_words};
 
 use crate::address;
 use gates::list::GateList;
@@ -23,6 +23,14 @@ fn read_known(addrs: &[u64], mem: &[u32], a: u64, w: usize, out: &mut [u32])
     }
     let zeros = [0u32; 65];
     each::put_bits(out, 0, &zeros, w);
+}
+
+// The result at first: known false.
+fn clear(out: &mut [u32], w: usize)
+    requires { (w ≤ 64) × (w ≤ length out.old) }
+    ensures { out.new ≡ cleared w out.old }
+{
+    out[..w].fill(0);
 }
 
 // Read at one listed address, a, whose word is given, onto the result.
@@ -59,8 +67,7 @@ pub fn read_words(
         read_known(addrs, mem, a, w, out);
         return;
     }
-    let zeros = [0u32; 65];
-    each::put_bits(out, 0, &zeros, w);
+    clear(out, w);
     for i in 0..addrs.len() {
         let from = i * w;
         read_one(list, addrs[i], &mem[from..from + w], adr, w, out);

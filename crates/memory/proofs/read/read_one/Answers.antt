@@ -1,4 +1,3 @@
-use borrow.Author.Rules.{rules}
 use native.Mathlib.Omega.{arith}
 use Rattle.words.specs.Num.{filled}
 use Rattle.memory.proofs.Paths.{ands-room, ors-room, read-one-path}
