@@ -17,6 +17,12 @@ write_known n w addrs a val mem =
     let i : ℕ = listed_at n addrs a in
     pick (ltb i n) (put_bits (i * w) val w mem) mem
 
+-- one listed address, a, whose word is given: it becomes the value, or stays
+unfoldable pub write_one : ℕ → ℕ → List ℕ → List ℕ → Word → Word
+write_one w a adr val st =
+    let eq : MadeBit = at_listed w a adr st.net in
+    each_bit (Choose eq.bit) val st.out w (record { net = eq.net; out = st.out })
+
 -- the listed address of word i; the memory is `out`
 unfoldable pub write_step : ℕ → List ℕ → List ℕ → List ℕ → ℕ → Word → Word
 write_step w addrs adr val i st =

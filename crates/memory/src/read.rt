@@ -1,12 +1,11 @@
 // Reading a memory.
 ghost use Rattle.std.specs.Prelude.{◌≡◌, ◌+◌, ◌*◌, ◌-◌, ◌≤◌, ◌<◌, length};
-ghost use Rattle.loops.specs.Loop.{iter};
-ghost use Rattle.gates.specs.Made.{Fits};
+ghost use Rattle.gates.specs.Made.{Fits, SameList};
 ghost use Rattle.words.specs.Each.{word_of};
-ghost use Rattle.memory.specs.Read.{read_known, read_one, read_step, read_words};
+ghost use Rattle.memory.specs.Read.{cleared, read_known, read_one, read_words};
 
 use crate::address;
-use gates::made::At;
+use gates::list::GateList;
 use table::sheet::find;
 use words::each;
 use words::each::Bitwise;
@@ -26,102 +25,51 @@ fn read_known(addrs: &[u64], mem: &[u32], a: u64, w: usize, out: &mut [u32])
     each::put_bits(out, 0, &zeros, w);
 }
 
+// The result at first: known false.
+fn clear(out: &mut [u32], w: usize)
+    requires { (w ≤ 64) × (w ≤ length out.old) }
+    ensures { out.new ≡ cleared w out.old }
+{
+    out[..w].fill(0);
+}
+
 // Read at one listed address, a, whose word is given, onto the result.
-fn read_one(
-    gates: &mut [u32],
-    at: At,
-    a: u64,
-    word: &[u32],
-    adr: &[u32],
-    w: usize,
-    out: &mut [u32],
-) -> At
-    requires fits { Fits gates.old at (4 * w - 1) }
+fn read_one(list: &mut GateList, a: u64, word: &[u32], adr: &[u32], w: usize, out: &mut [u32])
+    requires fits { Fits list.old (4 * w - 1) }
     requires le_w { (1 ≤ w) × (w ≤ 64) × (w ≤ length word.now) × (w ≤ length adr.now) × (w ≤ length out.old) }
-    ensures { word_of gates.new result out.new ≡ read_one w a word.now adr.now (word_of gates.old at out.old) }
+    ensures same { SameList list.old list.new }
+    ensures made { word_of list.new out.new ≡ read_one w a word.now adr.now (word_of list.old out.old) }
 {
-    let equal = address::at_listed(gates, at, a, adr, w);
+    let equal = address::at_listed(list, a, adr, w);
     let mut ands = [0u32; 65];
-    let next = each::each_bit(
-        gates,
-        equal.at,
-        Bitwise::AndWith(equal.bit),
-        word,
-        word,
-        w,
-        &mut ands,
-    );
-    // the result so far, apart from the place that is written
-    let mut old = [0u32; 65];
-    each::put_bits(&mut old, 0, out, w);
-    each::each_bit(gates, next, Bitwise::Or, &old, &ands, w, out)
+    each::each_bit(list, Bitwise::AndWith(equal), word, word, w, &mut ands);
+    each::each_onto(list, Bitwise::Or, out, w, &mut ands);
+    each::put_bits(out, 0, &ands, w);
 }
 
-// One turn of read_each.
-fn read_step(
-    gates: &mut [u32],
-    at: At,
-    addrs: &[u64],
-    mem: &[u32],
-    adr: &[u32],
-    w: usize,
-    out: &mut [u32],
-    i: usize,
-) -> At
-    requires fits { Fits gates.old at (4 * w - 1) }
-    requires le_w { (1 ≤ w) × (w ≤ 64) × (w ≤ length adr.now) × (w ≤ length out.old) }
-    requires i_in_bounds { (i < length addrs.now) × (i * w + w ≤ length mem.now) }
-    ensures { word_of gates.new result out.new ≡ read_step w addrs.now mem.now adr.now i (word_of gates.old at out.old) }
-{
-    let from = i * w;
-    read_one(gates, at, addrs[i], &mem[from..from + w], adr, w, out)
-}
-
-// Read at an address that is not known: every listed word takes part.
-fn read_each(
-    gates: &mut [u32],
-    at: At,
-    addrs: &[u64],
-    mem: &[u32],
-    adr: &[u32],
-    w: usize,
-    out: &mut [u32],
-) -> At
-    requires fits { Fits gates.old at (length addrs.now * (4 * w - 1)) }
-    requires le_w { (1 ≤ w) × (w ≤ 64) × (w ≤ length adr.now) × (w ≤ length out.old) }
-    requires w_in_bounds { length addrs.now * w ≤ length mem.now }
-    ensures { word_of gates.new result out.new ≡ iter (length addrs.now) (read_step w addrs.now mem.now adr.now) (word_of gates.old at out.old) }
-{
-    let mut next = at;
-    let mut i = 0;
-    while i < addrs.len() {
-        next = read_step(gates, next, addrs, mem, adr, w, out, i);
-        i += 1;
-    }
-    next
-}
-
-// The word of w bits that a memory has at an address.
+// The word of w bits that a memory has at an address: where that is not known, every listed word takes part.
 pub fn read_words(
-    gates: &mut [u32],
-    at: At,
+    list: &mut GateList,
     addrs: &[u64],
     mem: &[u32],
     adr: &[u32],
     w: usize,
     out: &mut [u32],
-) -> At
-    requires fits { Fits gates.old at (length addrs.now * (4 * w - 1)) }
+)
+    requires fits { Fits list.old (length addrs.now * (4 * w - 1)) }
     requires le_w { (1 ≤ w) × (w ≤ 64) × (w ≡ length adr.now) × (w ≤ length out.old) }
     requires w_in_bounds { length addrs.now * w ≤ length mem.now }
-    ensures { word_of gates.new result out.new ≡ read_words (length addrs.now) w addrs.now mem.now adr.now (word_of gates.old at out.old) }
+    ensures same { SameList list.old list.new }
+    ensures made { word_of list.new out.new ≡ read_words (length addrs.now) w addrs.now mem.now adr.now (word_of list.old out.old) }
 {
     if digits::all_known(adr) {
         let a = digits::known_number(adr);
         read_known(addrs, mem, a, w, out);
-        return at;
+        return;
     }
-    let zeros = [0u32; 65];
-    each::put_bits(out, 0, &zeros, w);
-    read_each(gates, at, addrs, mem, adr, w, out)
+    clear(out, w);
+    for i in 0..addrs.len() {
+        let from = i * w;
+        read_one(list, addrs[i], &mem[from..from + w], adr, w, out);
+    }
 }

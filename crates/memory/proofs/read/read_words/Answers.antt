@@ -1,14 +1,30 @@
-use Rattle.words.specs.Num.{filled}
+use borrow.Author.Rules.{rules}
 use native.Mathlib.Omega.{arith}
-use Rattle.memory.proofs.Paths.{known-below, read-at-known, read-at-other}
+use Rattle.words.specs.Each.{word_of}
+use Rattle.loops.proofs.Loop.{loop-none, loop-more}
+use Rattle.memory.proofs.Paths.{known-below, reads-room, read-step-path, read-at-known, read-at-other}
 use Rattle.memory.proofs.read.read_words.Goals as goal
 
-pub known_number-a-requires : goal.known_number-a-requires
-known_number-a-requires c = record { bits_len_bound = omega arith; below = known-below _ c.args.adr.now _ c.requires.le_w.2 c.all_known.ensures c.if-all_known.true }
+pub known_number-a-requires-clause-below : goal.known_number-a-requires-clause-below
+known_number-a-requires-clause-below c = search (rules, known-below)
 
-pub returns-then-all_known : goal.returns-then-all_known
-returns-then-all_known c = read-at-known _ _ _ c.requires.le_w.2 c.all_known.ensures _ _ _ _ _ _ _ _ c.if-all_known.true c.known_number-a.ensures c.read_known.ensures
+pub returns-then-all_known-clause-made : goal.returns-then-all_known-clause-made
+returns-then-all_known-clause-made c = search (rules, read-at-known)
 
-pub returns : goal.returns
-unfolding filled
-returns c = read-at-other _ _ _ c.requires.le_w.2 c.all_known.ensures _ _ _ _ _ _ _ _ _ _ c.if-all_known.false c.put_bits.ensures c.read_each.ensures
+pub loop-i-init : goal.loop-i-init
+loop-i-init c = search (rules, loop-none)
+
+pub read_one-requires-clause-fits : goal.read_one-requires-clause-fits
+read_one-requires-clause-fits c =
+    omega (
+      arith,
+      reads-room c.args.w c.args.addrs.now c.args.mem.now c.args.adr.now c.requires.le_w.0 c.requires.le_w.1 (word_of c.args.list.now c.clear.new.out) c.loop-i.list _ c.loop-i.i
+          c.loop-i.invariant.made _ c.loop-i-test.true,
+      c.requires,
+    )
+
+pub loop-i-preserved : goal.loop-i-preserved
+loop-i-preserved c = search (rules, loop-more, read-step-path)
+
+pub returns-clause-made : goal.returns-clause-made
+returns-clause-made c = search (rules, read-at-other)
