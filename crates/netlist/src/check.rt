@@ -44,26 +44,30 @@ impl OnSheet for Refusal {
 fn field_good(used: bool, i: usize, v: u32) -> bool
     ensures { result ≡ field_good used i v }
 {
-    (used & ((v as usize) < i)) | (!used & (v == 0))
+    if used { (v as usize) < i } else { v == 0 }
 }
 
-#[tactic(auto, unfolding(crate::specs::Check::const_good))]
-fn const_good(i: usize, g: Gate) -> bool
-    ensures { result ≡ const_good i g }
-{
-    (g.kind as usize == i) & (g.x == 0) & (g.y == 0) & (g.z == 0)
-}
+impl Gate {
+    // Whether this is the constant that gate i is to be, for i below 2.
+    #[tactic(auto, unfolding(crate::specs::Check::const_good))]
+    fn const_good(self, i: usize) -> bool
+        ensures { result ≡ const_good i self }
+    {
+        self.kind as usize == i && self.x == 0 && self.y == 0 && self.z == 0
+    }
 
-#[tactic(auto, unfolding(crate::specs::Check::later_good))]
-fn later_good(i: usize, g: Gate) -> bool
-    ensures { result ≡ later_good i g }
-{
-    (Gate::is_free(g.kind) & (g.z == 0))
-        | ((Gate::NOT <= g.kind)
-            & (g.kind <= Gate::RESULT_FULL)
-            & ((g.x as usize) < i)
-            & field_good(Gate::uses_y(g.kind), i, g.y)
-            & field_good(Gate::uses_z(g.kind), i, g.z))
+    // Whether gate i may be this one, for i from 2 on.
+    #[tactic(auto, unfolding(crate::specs::Check::later_good))]
+    fn later_good(self, i: usize) -> bool
+        ensures { result ≡ later_good i self }
+    {
+        (Gate::is_free(self.kind) && self.z == 0)
+            || (Gate::NOT <= self.kind
+                && self.kind <= Gate::RESULT_FULL
+                && (self.x as usize) < i
+                && field_good(Gate::uses_y(self.kind), i, self.y)
+                && field_good(Gate::uses_z(self.kind), i, self.z))
+    }
 }
 
 #[tactic(auto, unfolding(crate::specs::Check::faulty, loops::specs::Loop::pick))]
@@ -71,11 +75,12 @@ fn is_faulty(gates: &[u32], i: usize) -> bool
     requires { Room gates.now (i + 1) }
     ensures { result ≡ faulty gates.now i }
 {
-    let g = record::gate_at(gates, i);
+    let gate = record::gate_at(gates, i);
     if i < 2 {
-        return !const_good(i, g);
+        !gate.const_good(i)
+    } else {
+        !gate.later_good(i)
     }
-    !later_good(i, g)
 }
 
 #[tactic(auto, using(crate::proofs::Paths::list_size))]
@@ -83,7 +88,7 @@ pub fn check_gates(gates: &[u32]) -> Result<(), Refusal>
     ensures { result ≡ list_fault gates.now }
 {
     let n = record::count(gates);
-    if !(record::no_rest(gates) & (2 <= n)) {
+    if !record::no_rest(gates) || n < 2 {
         return Err(Refusal::GateList(0));
     }
     match (0..n).find(|&i| is_faulty(gates, i)) {

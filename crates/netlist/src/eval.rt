@@ -14,14 +14,17 @@ fn truth_at(values: &[u8], i: u32) -> bool
     values.get(i as usize) == Some(&1)
 }
 
-#[tactic(auto, unfolding(crate::specs::Eval::gate_value))]
-fn gate_value(g: Gate, values: &[u8]) -> u8
-    ensures { result ≡ gate_value g values.now }
-{
-    let x = truth_at(values, g.x);
-    let y = truth_at(values, g.y);
-    let z = truth_at(values, g.z);
-    Gate::value(g.kind, x, y, z) as u8
+impl Gate {
+    // What this gate's kind says of its operands' values.
+    #[tactic(auto, unfolding(crate::specs::Eval::gate_value))]
+    fn value_over(self, values: &[u8]) -> u8
+        ensures { result ≡ gate_value self values.now }
+    {
+        let x = truth_at(values, self.x);
+        let y = truth_at(values, self.y);
+        let z = truth_at(values, self.z);
+        Gate::value(self.kind, x, y, z) as u8
+    }
 }
 
 // One turn of eval_all.
@@ -30,11 +33,10 @@ fn eval_step(gates: &[u32], i: usize, values: &mut [u8])
     requires { Room gates.now (i + 1) × (i < length values.old) }
     ensures { values.new ≡ eval_step gates.now i values.old }
 {
-    let g = record::gate_at(gates, i);
-    if Gate::is_free(g.kind) {
-        return;
+    let gate = record::gate_at(gates, i);
+    if !Gate::is_free(gate.kind) {
+        values[i] = gate.value_over(values);
     }
-    values[i] = gate_value(g, values);
 }
 
 #[tactic(auto, unfolding(crate::specs::Eval::out_of_range))]
@@ -42,8 +44,7 @@ fn input_bad(gates: &[u32], values: &[u8], i: usize) -> bool
     requires { Room gates.now (i + 1) × (i < length values.now) }
     ensures { result ≡ out_of_range gates.now values.now i }
 {
-    let g = record::gate_at(gates, i);
-    Gate::is_free(g.kind) & (2 <= values[i])
+    Gate::is_free(record::gate_at(gates, i).kind) && 2 <= values[i]
 }
 
 #[tactic(auto, using(loops::proofs::Loop::for_loop))]

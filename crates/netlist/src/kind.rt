@@ -40,7 +40,7 @@ impl Gate {
     pub fn is_free(kind: u32) -> bool
         ensures { result ≡ free kind }
     {
-        (kind == Gate::INPUT_BIT) | (kind == Gate::QUOTIENT) | (kind == Gate::REMAINDER)
+        matches!(kind, Gate::INPUT_BIT | Gate::QUOTIENT | Gate::REMAINDER)
     }
 
     // Of a kind that is not free: whether y, and whether z, is an operand.
@@ -55,7 +55,7 @@ impl Gate {
     pub fn uses_z(kind: u32) -> bool
         ensures { result ≡ uses_z kind }
     {
-        (kind == Gate::CARRY_FULL) | (kind == Gate::RESULT_FULL)
+        matches!(kind, Gate::CARRY_FULL | Gate::RESULT_FULL)
     }
 
     // What a kind says of its operands' values.
