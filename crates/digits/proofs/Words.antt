@@ -1,5 +1,5 @@
 -- Words of known bits: the digits that were put, the test, and what the code's steps come to.
-use mathlib.Core.Path.{◌≡◌, refl, ap, sym, ◌∙◌}
+use mathlib.Core.Path.{◌≡◌, refl, ap, ◌∙◌}
 use mathlib.Core.List.{List}
 use mathlib.Core.Bool.{Bool, true, false, not, false≢true}
 use Prim.Native.Nat.{ℕ, zero, suc, ◌+◌, ◌*◌, ◌/◌, ◌%◌, ◌^◌, ◌≤◌, ◌<◌}
@@ -12,9 +12,12 @@ use lib.Dec.{leb}
 use lib.Pow.{pow-lt}
 use lib.ListN.{length, get_or, set, length-set}
 use lib.Seq.{get_or-set_same, get_or-set_other}
-use borrow.Author.Tests.{leb-true, leb-false, le-leb, lt-leb, not-false}
-use Rattle.loops.specs.Loop.{first}
-use Rattle.loops.proofs.Loop.{iter-inv, first_below, first-true, first_found, first_more, first_done}
+use borrow.Author.Tests.{leb-true, leb-false, not-false}
+use Rattle.std.specs.declared.option.Option.{Option}
+use Rattle.std.specs.Option.{unwrap_or}
+use Rattle.loops.specs.Loop.{first, found}
+use Rattle.loops.proofs.Search.{found_or, first_same}
+use Rattle.loops.proofs.Loop.{iter-inv, loop-more, first_below, first-true}
 use Rattle.netlist.specs.Bit.{is_known}
 use Rattle.netlist.proofs.BitLaws.{known-less, less-known}
 use Rattle.digits.specs.Digits.{digit, powers_below, number, digit_step, put_digits, Below, unknown_at, all_known, known_bits}
@@ -62,26 +65,14 @@ below_all bs w k = go (all_known w bs) refl
     go false e = absurd (all-false bs w e k)
 
 -- what the code's steps come to
-pub digit-path : (a i r : ℕ) (out : List ℕ) → r ≡ digit a i → set out i r ≡ digit_step a i out
+pub digits_more : (a i r : ℕ) (l x : List ℕ) → x ≡ put_digits a i l → r ≡ digit a i → set x i r ≡ put_digits a (i + 1) l
 unfolding digit_step
-digit-path a i r out e = ap (set out i) e
+digits_more a i r l x e q = loop-more (digit_step a) l x _ i e (ap (set x i) q)
 
 -- the digit by shift and mask
 pub masked : (a i : ℕ) → bit_and (a / 2 ^ i) 1 ≡ digit a i
 unfolding digit
 masked a i = and_mask (a / 2 ^ i) 1
-
-pub unknown-path : (bs : List ℕ) (i : ℕ) (r : Bool) → r ≡ is_known (get_or bs i 0) → not r ≡ unknown_at bs i
-unfolding unknown_at
-unknown-path bs i r e = ap not e
-
-pub found-path : (bs : List ℕ) (i w : ℕ) → i ≡ first w (unknown_at bs) → i < w → false ≡ all_known w bs
-unfolding all_known
-found-path bs i w e h = rw (← e, lt-leb w i h)
-
-pub none-path : (bs : List ℕ) (i w : ℕ) → i ≡ first w (unknown_at bs) → w ≤ i → true ≡ all_known w bs
-unfolding all_known
-none-path bs i w e h = rw (← e, le-leb w i h)
 
 -- one digit more
 pub shifted_fits : (b i : ℕ) → b < 2 → i < 64 → (b * 2 ^ i ≤ 2 ^ i) × (2 ^ i + 2 ^ i ≤ 18446744073709551616)
@@ -92,34 +83,24 @@ shifted_fits b i hb hi = (low b hb, omega (arith, rw (pow-suc 2 i) at (pow-le-po
     low (suc zero) h = omega arith
     low (suc (suc b)) h = absurd (omega arith)
 
-pub number-none : (v : ℕ → Bool) → 0 ≡ number v 0
+pub number_none : (v : ℕ → Bool) → 0 ≡ number v 0
 unfolding number
-number-none v = refl
+number_none v = refl
 
 pub number_more : (bs : List ℕ) (i x r : ℕ) → get_or bs i 0 < 2 → x ≡ number (known_bits bs) i → r ≡ x + 2 ^ i * get_or bs i 0 → r ≡ number (known_bits bs) (i + 1)
 unfolding number
 number_more bs i x r h e q = rw (add-one i, bit-eqb (get_or bs i 0) h) (q ∙ ap (λ (z : ℕ). z + 2 ^ i * get_or bs i 0) e)
 
-pub number-done : (v : ℕ → Bool) (i w x : ℕ) → w ≤ i → i ≤ w → x ≡ number v i → x ≡ number v w
-number-done v i w x h k e = let q : w ≡ i = omega arith in rw q e
-
-pub number-less : (v : ℕ → Bool) (i x : ℕ) → x ≡ number v i → x < 2 ^ i
-number-less v i x e = rw e (number_lt v i)
+pub number_less : (v : ℕ → Bool) (i x : ℕ) → x ≡ number v i → x < 2 ^ i
+number_less v i x e = rw e (number_lt v i)
 
 -- the search for the first power of two that is not below w; the code has the power by a shift
-module _ (w j : ℕ) where
-  by-shift : j < w → w ≤ 64 → 1 * 2 ^ j % 2 ^ 64 ≡ 2 ^ j
-  by-shift l h =
+module _ (w : ℕ) (fits : w ≤ 64) where
+  by-shift : (j : ℕ) → j < w → 1 * 2 ^ j % 2 ^ 64 ≡ 2 ^ j
+  by-shift j l =
       let small : 2 ^ j < 2 ^ 64 = pow-lt {i = j} {j = 64} (omega arith) in
       rw (one-mul (2 ^ j)) (mod-eq_of_lt small)
 
-  pub power-here : j < w → w ≤ 64 → j ≡ first j (λ i. leb w (2 ^ i)) → w ≤ 1 * 2 ^ j % 2 ^ 64 → j ≡ powers_below w
+  pub powers_found : (r : Option ℕ) → r ≡ found w (λ j. leb w (1 * 2 ^ j % 2 ^ 64)) → unwrap_or r w ≡ powers_below w
   unfolding powers_below
-  power-here l k e h = first_found (λ i. leb w (2 ^ i)) w j true l e (sym (le-leb w (2 ^ j) (omega (arith, by-shift l k)))) refl
-
-  pub power-next : j < w → w ≤ 64 → j ≡ first j (λ i. leb w (2 ^ i)) → 1 * 2 ^ j % 2 ^ 64 < w → j + 1 ≡ first (j + 1) (λ i. leb w (2 ^ i))
-  power-next l k e h = first_more (λ i. leb w (2 ^ i)) j false e (sym (lt-leb w (2 ^ j) (omega (arith, by-shift l k)))) refl
-
-  pub powers-done : w ≤ j → j ≤ w → j ≡ first j (λ i. leb w (2 ^ i)) → j ≡ powers_below w
-  unfolding powers_below
-  powers-done h k e = first_done (λ i. leb w (2 ^ i)) j w h k e
+  powers_found r e = ap (λ z. unwrap_or z w) e ∙ (found_or _ w ∙ first_same (λ j. leb w (2 ^ j)) (λ j. leb w (1 * 2 ^ j % 2 ^ 64)) w (λ j l. ap (leb w) (by-shift j l)))

@@ -8,6 +8,7 @@ ghost use Rattle.digits.specs.Digits.{digit, powers_below, put_digits, all_known
 use netlist::record::Gate;
 
 // Digit i of a, by shift and mask.
+#[tactic(auto, using(crate::proofs::Words::masked, crate::proofs::Numbers::digit_lt))]
 pub fn digit_of(a: u64, i: usize) -> u32
     requires { i < 64 }
     ensures { result ≡ digit a i }
@@ -16,14 +17,13 @@ pub fn digit_of(a: u64, i: usize) -> u32
 }
 
 // The digits of a, lowest first, as known bits.
+#[tactic(auto, using(loops::proofs::Loop::for_loop, crate::proofs::Words::digits_more, std::proofs::lemmas::Grind::common_steps))]
 pub fn put_digits(a: u64, w: usize, out: &mut [u32])
     requires { (w ≤ 64) × (w ≤ length out.old) }
     ensures { out.new ≡ put_digits a w out.old }
 {
-    let mut i = 0;
-    while i < w {
+    for i in 0..w {
         out[i] = digit_of(a, i);
-        i += 1;
     }
 }
 
@@ -31,14 +31,7 @@ pub fn put_digits(a: u64, w: usize, out: &mut [u32])
 pub fn all_known(bits: &[u32]) -> bool
     ensures { result ≡ all_known (length bits.now) bits.now }
 {
-    let mut i = 0;
-    while i < bits.len() {
-        if !Gate::is_known(bits[i]) {
-            return false;
-        }
-        i += 1;
-    }
-    true
+    bits.iter().all(|&bit| Gate::is_known(bit))
 }
 
 // How many powers of two are below w.
@@ -46,16 +39,10 @@ pub fn powers_below(w: usize) -> usize
     requires { w ≤ 64 }
     ensures { result ≡ powers_below w }
 {
-    let mut j = 0;
-    while j < w {
-        if w <= 1 << j {
-            return j;
-        }
-        j += 1;
-    }
-    j
+    (0..w).find(|&j| w <= 1 << j).unwrap_or(w)
 }
 
+#[tactic(auto, using(crate::proofs::Words::shifted_fits))]
 fn with_digit(x: u64, b: u32, i: usize) -> u64
     requires { (b < 2) × (i < 64) × (x < 2 ^ i) }
     ensures { result ≡ x + 2 ^ i * b }
@@ -64,16 +51,15 @@ fn with_digit(x: u64, b: u32, i: usize) -> u64
 }
 
 // The number that known bits say.
+#[tactic(auto, using(crate::proofs::Words::number_none, crate::proofs::Words::number_more, crate::proofs::Words::number_less))]
 pub fn known_number(bits: &[u32]) -> u64
     requires bits_len_bound { length bits.now ≤ 64 }
     requires below { Below 2 bits.now (length bits.now) }
     ensures { result ≡ known_number (length bits.now) bits.now }
 {
     let mut x = 0;
-    let mut i = 0;
-    while i < bits.len() {
-        x = with_digit(x, bits[i], i);
-        i += 1;
+    for (i, &bit) in bits.iter().enumerate() {
+        x = with_digit(x, bit, i);
     }
     x
 }

@@ -18,18 +18,11 @@ use Rattle.lowering.specs.Lower as low
 use Rattle.lowering.specs.Promise.{Promise}
 use Rattle.values.specs.declared.Refusal as value
 use Rattle.values.specs.Eval as words
-use Rattle.netlist.specs.declared.check.Answer as gate
-use Rattle.netlist.specs.Check as check
-use Rattle.netlist.specs.Eval as list
 use Rattle.ffi.specs.Count.{gates_made, constraints_held, lower_answer, room_for}
 
 pub words-cross : (u : words.Run) (a : Result Unit value.Refusal) (v : List ℕ) (r k : ℕ) → words.run a v ≡ u → r ≡ words.number a → k ≡ words.node a
     → (r ≡ words.number u.answer) × ((k ≡ words.node u.answer) × (v ≡ u.values))
 words-cross u a v r k e p q = (p ∙ ap (λ (x : words.Run). words.number x.answer) e, (q ∙ ap (λ (x : words.Run). words.node x.answer) e, ap (λ (x : words.Run). x.values) e))
-
-pub gates-cross : (u : list.Run) (a : gate.Answer) (v : List ℕ) (r k : ℕ) → list.run a v ≡ u → r ≡ check.number a → k ≡ check.place a
-    → (r ≡ check.number u.answer) × ((k ≡ check.place u.answer) × (v ≡ u.values))
-gates-cross u a v r k e p q = (p ∙ ap (λ (x : list.Run). check.number x.answer) e, (q ∙ ap (λ (x : list.Run). check.place x.answer) e, ap (λ (x : list.Run). x.values) e))
 
 same : (t l : List ℕ) (w : ℕ) (g c m : List ℕ) (a : Answer) (g' c' m' : List ℕ) → Promise (source t l w) g c m a g' c' m' → a ≡ lower_answer t l w g c m
 same t l w g c m a g' c' m' p = ap (λ (x : low.Run). x.answer) p.answer

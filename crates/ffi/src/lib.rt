@@ -13,6 +13,7 @@ ghost use Rattle.netlist.specs.Check as check;
 ghost use Rattle.netlist.specs.Eval as list;
 ghost use Rattle.ffi.specs.Count.{gates_made, constraints_held, lower_answer, room_for};
 
+use netlist::sheet;
 use table::{Fault, Sums};
 
 // The sums of a table that was checked.
@@ -108,7 +109,7 @@ pub extern "C" fn ramstitcher_eval_gates(gates: &[u32], values: &mut [u8], gate:
     ensures gate_after { gate.new ≡ check.place (list.eval_gates gates.now values.old).answer }
     ensures values_after { values.new ≡ (list.eval_gates gates.now values.old).values }
 {
-    let a = netlist::eval::eval_gates(gates, values);
-    *gate = netlist::check::place(a);
-    netlist::check::number(a)
+    let answer = netlist::eval::eval_gates(gates, values);
+    *gate = sheet::place(answer);
+    sheet::number(answer)
 }

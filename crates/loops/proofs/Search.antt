@@ -22,7 +22,7 @@ use Rattle.std.specs.Fn.{CalledAt}
 use Rattle.std.specs.Iterator.{YieldsThen}
 use Rattle.std.specs.List.{FoldsTo, list_all, position, position_or_len}
 use Rattle.std.specs.Bool.{⊤}
-use Rattle.std.specs.Option.{MatchOption}
+use Rattle.std.specs.Option.{MatchOption, unwrap_or}
 use Rattle.loops.specs.Loop.{pick, first, found}
 use Rattle.loops.proofs.Loop.{by-pick, first-true, first_below, first-le}
 
@@ -35,6 +35,10 @@ module _ (p : ℕ → Bool) where
       go (yes l) d = absurd (let a = below (first n p) l in let b = first-true p n (omega arith) in let z : ◌≡◌ {A = ℕ} 0 1 = cc in omega arith)
       go (no l) (yes m) = absurd (let a = first_below p n i m in let b = at (omega (arith, first-le p n)) in let z : ◌≡◌ {A = ℕ} 0 1 = cc in omega arith)
       go (no l) (no m) = omega arith
+
+  -- two tests that agree below n
+  pub first_same : (q : ℕ → Bool) (n : ℕ) → ((i : ℕ) → i < n → q i ≡ p i) → first n q ≡ first n p
+  first_same q n same = sym (first-is n (first n q) (first-le q n) (λ k h. sym (same k (omega (arith, first-le q n))) ∙ first_below q n k h) (λ h. sym (same _ h) ∙ first-true q n h))
 
   pub found_some : (n i : ℕ) → i < n → ((k : ℕ) → k < i → p k ≡ false) → p i ≡ true → Some i ≡ found n p
   unfolding found pick
@@ -78,6 +82,11 @@ module _ (p : ℕ → Bool) where
   pub none_first : (n : ℕ) → None ≡ found n p → n ≤ first n p
   unfolding found
   none_first n e = by-pick (λ r. None ≡ r → n ≤ first n p) (ltb (first n p) n) (Some (first n p)) None (λ t q. absurd (grind arith)) (λ t q. ltb-false (first n p) n t) e
+
+  -- the number itself, as `.unwrap_or(n)` gives it
+  pub found_or : (n : ℕ) → unwrap_or (found n p) n ≡ first n p
+  unfolding found
+  found_or n = by-pick (λ r. unwrap_or r n ≡ first n p) (ltb (first n p) n) (Some (first n p)) None (λ t. refl) (λ t. omega (arith, ltb-false (first n p) n t, first-le p n))
 
 -- `xs.iter().all(|x| test)`, by its lemma `all_from_yields_List`: no place fails the test
 pub every : {A : Type 0} (t : A → Bool) (xs : List A) (d : A) → list_all t xs ≡ leb (length xs) (first (length xs) (λ i. not (t (get_or xs i d))))

@@ -1,7 +1,7 @@
 -- What the evaluator answers with Done obeys the list, and is the only assignment that does so with the given free values.
 use mathlib.Core.Path.{◌≡◌, refl, ap, sym, ◌∙◌}
 use mathlib.Core.List.{List}
-use mathlib.Core.Bool.{Bool, true, false, not, ◌&&◌}
+use mathlib.Core.Bool.{Bool, true, false, not, ◌&&◌, false≢true}
 use Prim.Native.Nat.{ℕ, zero, suc, ◌≤◌, ◌<◌}
 use native.Mathlib.Omega.{arith}
 use native.Mathlib.Decide.{dec_lt}
@@ -9,15 +9,19 @@ use lib.Dec.{eqb, ltb, leb}
 use lib.ListN.{length, get_or, set, replicate, length-set, length-replicate}
 use lib.Seq.{get_or-set_same, get_or-set_other}
 use borrow.Author.Tests.{lt-ltb, le-ltb, le-leb, leb-true, ltb-true, eqb-true, not-false, ltb-false}
+use Rattle.std.specs.declared.result.Result.{Result}
+use Rattle.std.specs.declared.result.Result.TheVariants.{Ok, Err}
+use Rattle.std.specs.Result.{is_ok}
 use Rattle.loops.specs.Loop.{pick, iter, first, bit}
-use Rattle.loops.proofs.Loop.{iter-inv, both, either, first_below, first-true}
+use Rattle.loops.proofs.Loop.{by-pick, iter-inv, both, either, first_below}
+use Rattle.loops.proofs.Search.{first-is}
 use Rattle.netlist.specs.declared.record.Gate.{Gate}
-use Rattle.netlist.specs.declared.check.Answer.{Answer}
-use Rattle.netlist.specs.declared.check.Answer.TheVariants.{Done, GateList, ValueRoom, Input}
+use Rattle.netlist.specs.declared.check.Refusal.{Refusal}
+use Rattle.netlist.specs.declared.check.Refusal.TheVariants.{GateList, ValueRoom, Input}
 use Rattle.netlist.specs.Record.{gate_at, Room, records, whole_records}
 use Rattle.netlist.specs.Kind.{free, uses_y, uses_z, value_of}
 use Rattle.netlist.specs.Net.{Net, Assign, Says, Obeys}
-use Rattle.netlist.specs.Check.{field_good, const_good, later_good, faulty, list_fault, is_done}
+use Rattle.netlist.specs.Check.{field_good, const_good, later_good, faulty, list_fault}
 use Rattle.netlist.specs.Eval.{truth, gate_value, eval_step, out_of_range, Run, run, eval_sound, eval_gates}
 use Rattle.netlist.specs.Right.{Evaluated}
 
@@ -35,7 +39,7 @@ unfolding later_good
 later-less i g h e f =
     either (free g.kind && eqb g.z 0)
     (leb 3 g.kind && leb g.kind 11 && ltb g.x i && field_good (uses_y g.kind) i g.y && field_good (uses_z g.kind) i g.z) _
-    (λ p. absurd (let q : free g.kind ≡ true = (both (free g.kind) (eqb g.z 0) p).0 in let z : ◌≡◌ {A = ℕ} 0 1 = cc in omega arith))
+    (λ p. absurd (let q : free g.kind ≡ true = (both (free g.kind) (eqb g.z 0) p).0 in false≢true cc))
     (λ p.
     let a = both (leb 3 g.kind && leb g.kind 11 && ltb g.x i && field_good (uses_y g.kind) i g.y) (field_good (uses_z g.kind) i g.z) p in
     let b = both (leb 3 g.kind && leb g.kind 11 && ltb g.x i) (field_good (uses_y g.kind) i g.y) a.0 in
@@ -113,7 +117,7 @@ module _ (l v : List ℕ) (n : ℕ) (good : (j : ℕ) → j < n → faulty l j �
       early j q f (yes p) = s.obeys j p f
       early j q f (no p) =
           let r : j ≡ i = omega arith in
-          absurd (let z : ◌≡◌ {A = ℕ} 0 1 = cc (ap (λ m. free (gate_at l m).kind) r) in omega arith)
+          absurd (false≢true (cc (ap (λ m. free (gate_at l m).kind) r)))
   step i x h s false e =
       rw e
       (record {
@@ -124,7 +128,7 @@ module _ (l v : List ℕ) (n : ℕ) (good : (j : ℕ) → j < n → faulty l j �
       })
     where
       other : (j : ℕ) → free (gate_at l j).kind ≡ true → j ≡ i → ⊥
-      other j f q = let z : ◌≡◌ {A = ℕ} 0 1 = cc (ap (λ m. free (gate_at l m).kind) q) in omega arith
+      other j f q = false≢true (cc (ap (λ m. free (gate_at l m).kind) q))
 
       early : (j : ℕ) → j < suc i → free (gate_at l j).kind ≡ false → Dec (j < i)
           → get_or (set x i (gate_value (gate_at l i) x)) j 0 ≡ gate_value (gate_at l j) (set x i (gate_value (gate_at l i) x))
@@ -228,74 +232,49 @@ module _ (s : Net) (good : (j : ℕ) → j < s.n → faulty s.gates j ≡ false)
   unfolding solved
   solved-given j h f = bit-truth (given j) _ (ev.kept j f ∙ (bytes-law s.n).there j h)
 
-left : (b : Bool) (x y : Answer) → is_done y ≡ false → pick b x y ≡ Done → (b ≡ true) × (x ≡ Done)
-unfolding pick
-left true x y n e = (refl, e)
-left false x y n e = absurd (let z : ◌≡◌ {A = ℕ} 0 1 = cc (ap is_done e) in omega arith)
+module _ (l : List ℕ) where
+  Good : Result (Unit {0}) Refusal → Type 0
+  Good r = r ≡ Ok tt → (2 ≤ records l) × ((j : ℕ) → j < records l → faulty l j ≡ false)
 
-right : (b : Bool) (x y : Answer) → is_done x ≡ false → pick b x y ≡ Done → (b ≡ false) × (y ≡ Done)
-unfolding pick
-right true x y n e = absurd (let z : ◌≡◌ {A = ℕ} 0 1 = cc (ap is_done e) in omega arith)
-right false x y n e = (refl, e)
-
-is-done : (a : Answer) → is_done a ≡ true → a ≡ Done
-is-done Done e = refl
-is-done (GateList i) e = absurd (let z : ◌≡◌ {A = ℕ} 0 1 = cc in omega arith)
-is-done ValueRoom e = absurd (let z : ◌≡◌ {A = ℕ} 0 1 = cc in omega arith)
-is-done (Input i) e = absurd (let z : ◌≡◌ {A = ℕ} 0 1 = cc in omega arith)
-
--- a list without fault has no faulty gate, and two at least
-pub each-good : (l : List ℕ) → list_fault l ≡ Done → (2 ≤ records l) × ((j : ℕ) → j < records l → faulty l j ≡ false)
-unfolding list_fault
-each-good l e =
-    let p = left (whole_records l && leb 2 (records l)) _ (GateList 0) refl e in
-    let q = right (ltb (first (records l) (faulty l)) (records l)) (GateList (first (records l) (faulty l))) Done refl p.1 in (
-      leb-true 2 (records l) (both (whole_records l) (leb 2 (records l)) p.0).1,
-      λ j h. first_below (faulty l) (records l) j (omega (arith, ltb-false (first (records l) (faulty l)) (records l) q.0)),
-    )
+  -- a list without fault has no faulty gate, and two at least
+  pub each-good : list_fault l ≡ Ok tt → (2 ≤ records l) × ((j : ℕ) → j < records l → faulty l j ≡ false)
+  unfolding list_fault Good
+  each-good =
+      by-pick Good (whole_records l && leb 2 (records l)) _ (Err (GateList 0))
+      (λ p.
+      by-pick Good (ltb (first (records l) (faulty l)) (records l)) (Err (GateList (first (records l) (faulty l)))) (Ok tt) (λ q e. absurd (grind arith))
+      (λ q e. (
+        leb-true 2 (records l) (both (whole_records l) (leb 2 (records l)) p).1,
+        λ j h. first_below (faulty l) (records l) j (omega (arith, ltb-false (first (records l) (faulty l)) (records l) q)),
+      )))
+      (λ p e. absurd (grind arith))
 
 -- a net all of whose records are good passes the check, as the list of its used part
-pub passes : (l : List ℕ) → whole_records l ≡ true → 2 ≤ records l → ((j : ℕ) → j < records l → faulty l j ≡ false) → list_fault l ≡ Done
+pub passes : (l : List ℕ) → whole_records l ≡ true → 2 ≤ records l → ((j : ℕ) → j < records l → faulty l j ≡ false) → list_fault l ≡ Ok tt
 unfolding list_fault pick
-passes l w two good = rw (w, le-leb 2 (records l) two, le-ltb (first (records l) (faulty l)) (records l) none)
-  where
-    none : records l ≤ first (records l) (faulty l)
-    none = go (dec_lt (first (records l) (faulty l)) (records l))
-      where
-        go : Dec (first (records l) (faulty l) < records l) → records l ≤ first (records l) (faulty l)
-        go (yes h) =
-            let p : faulty l (first (records l) (faulty l)) ≡ true = first-true (faulty l) (records l) h in
-            let q : faulty l (first (records l) (faulty l)) ≡ false = good _ h in
-            absurd (let z : ◌≡◌ {A = ℕ} 0 1 = cc in omega arith)
-        go (no h) = omega arith
+passes l w two good =
+    let none : first (records l) (faulty l) ≡ records l = first-is (faulty l) (records l) (records l) (omega arith) good (λ h. absurd (omega arith)) in
+    rw (w, le-leb 2 (records l) two, none, le-ltb (records l) (records l) (omega arith))
 
-left-run : (P : Run → Type 0) (b : Bool) (x y : Run) → is_done y.answer ≡ false → (b ≡ true → x.answer ≡ Done → P x) → (pick b x y).answer ≡ Done → P (pick b x y)
-unfolding pick
-left-run P true x y n f e = f refl e
-left-run P false x y n f e = absurd (let z : ◌≡◌ {A = ℕ} 0 1 = cc (ap is_done e) in omega arith)
+is-ok : (a : Result (Unit {0}) Refusal) → is_ok a ≡ true → a ≡ Ok tt
+is-ok (Ok tt) e = refl
+is-ok (Err r) e = absurd (false≢true e)
 
-right-run : (P : Run → Type 0) (b : Bool) (x y : Run) → is_done x.answer ≡ false → (b ≡ false → y.answer ≡ Done → P y) → (pick b x y).answer ≡ Done → P (pick b x y)
-unfolding pick
-right-run P true x y n f e = absurd (let z : ◌≡◌ {A = ℕ} 0 1 = cc (ap is_done e) in omega arith)
-right-run P false x y n f e = f refl e
+-- what is answered where nothing is refused is what the list makes of what was given
+module _ (l v : List ℕ) where
+  Right : Run → Type 0
+  Right r = r.answer ≡ Ok tt → Evaluated l (records l) v r.values
 
-outer : (P : Run → Type 0) (l v : List ℕ) (b : Bool) → is_done (list_fault l) ≡ b → (list_fault l ≡ Done → (eval_sound l v).answer ≡ Done → P (eval_sound l v))
-    → (pick b (eval_sound l v) (run (list_fault l) v)).answer ≡ Done → P (pick b (eval_sound l v) (run (list_fault l) v))
-unfolding pick
-outer P l v true q f k = f (is-done (list_fault l) q) k
-outer P l v false q f k = absurd (let z : ◌≡◌ {A = ℕ} 0 1 = cc (ap is_done k) in omega arith)
+  right_sound : list_fault l ≡ Ok tt → Right (eval_sound l v)
+  unfolding eval_sound Right
+  right_sound d =
+      by-pick Right (ltb (length v) (records l)) (run (Err ValueRoom) v) _ (λ b e. absurd (grind arith))
+      (λ b.
+      by-pick Right (ltb (first (records l) (out_of_range l v)) (records l)) (run (Err (Input (first (records l) (out_of_range l v)))) v) _ (λ c e. absurd (grind arith))
+      (λ c e. evaluated l v (records l) (each-good l d).1 (ltb-false (length v) (records l) b)))
 
--- what is answered with Done is what the list makes of what was given
-pub done-right : (l v : List ℕ) → (eval_gates l v).answer ≡ Done → Evaluated l (records l) v (eval_gates l v).values
-unfolding eval_gates eval_sound
-done-right l v e = outer P l v (is_done (list_fault l)) refl inner e
-  where
-    P : Run → Type 0
-    P r = Evaluated l (records l) v r.values
-
-    inner : list_fault l ≡ Done → (eval_sound l v).answer ≡ Done → P (eval_sound l v)
-    inner d =
-        right-run P (ltb (length v) (records l)) (run ValueRoom v) _ refl
-        (λ b.
-        right-run P (ltb (first (records l) (out_of_range l v)) (records l)) (run (Input (first (records l) (out_of_range l v))) v) _ refl
-        (λ c k. evaluated l v (records l) (each-good l d).1 (ltb-false (length v) (records l) b)))
+  pub done-right : (eval_gates l v).answer ≡ Ok tt → Evaluated l (records l) v (eval_gates l v).values
+  unfolding eval_gates Right
+  done-right =
+      by-pick Right (is_ok (list_fault l)) (eval_sound l v) (run (list_fault l) v) (λ b. right_sound (is-ok (list_fault l) b))
+      (λ b e. absurd (false≢true (sym b ∙ ap is_ok e)))

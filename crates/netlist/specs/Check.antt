@@ -1,30 +1,30 @@
 -- Refusal 11, GATE LIST.
-use Rattle.std.specs.Prelude.{List, Bool, true, false, not, ◌&&◌, ◌||◌, ℕ, eqb, ltb, leb}
+use Rattle.std.specs.Prelude.{Result, Ok, Err, List, Bool, not, ◌&&◌, ◌||◌, ℕ, eqb, ltb, leb}
 use Rattle.netlist.specs.declared.record.Gate.{Gate}
-use Rattle.netlist.specs.declared.check.Answer.{Answer}
-use Rattle.netlist.specs.declared.check.Answer.TheVariants.{Done, GateList, ValueRoom, Input}
+use Rattle.netlist.specs.declared.check.Refusal.{Refusal}
+use Rattle.netlist.specs.declared.check.Refusal.TheVariants.{GateList, ValueRoom, Input}
 use Rattle.loops.specs.Loop.{pick, first}
+use Rattle.netlist.specs.Sheet.{told}
 use Rattle.netlist.specs.Record.{gate_at, records, whole_records}
 use Rattle.netlist.specs.Kind.{free, uses_y, uses_z}
 
--- the refusal sheet's number of an answer, and the gate beside it; 0 is no refusal
-abbrev pub number : Answer → ℕ
-number Done = 0
-number (GateList i) = 11
-number ValueRoom = 12
-number (Input i) = 13
+-- a refusal's number on the sheet, and the gate beside it
+abbrev pub number_of : Refusal → ℕ
+number_of (GateList i) = 11
+number_of ValueRoom = 12
+number_of (Input i) = 13
 
-abbrev pub place : Answer → ℕ
-place Done = 0
-place (GateList i) = i
-place ValueRoom = 0
-place (Input i) = i
+abbrev pub place_of : Refusal → ℕ
+place_of (GateList i) = i
+place_of ValueRoom = 0
+place_of (Input i) = i
 
-abbrev pub is_done : Answer → Bool
-is_done Done = true
-is_done (GateList i) = false
-is_done ValueRoom = false
-is_done (Input i) = false
+-- the same of an answer; 0 is no refusal
+abbrev pub number : Result (Unit {0}) Refusal → ℕ
+number a = told number_of a
+
+abbrev pub place : Result (Unit {0}) Refusal → ℕ
+place a = told place_of a
 
 -- operand not earlier, unused field not 0
 unfoldable pub field_good : Bool → ℕ → ℕ → Bool
@@ -44,8 +44,8 @@ unfoldable pub faulty : List ℕ → ℕ → Bool
 faulty l i = not (pick (ltb i 2) (const_good i (gate_at l i)) (later_good i (gate_at l i)))
 
 -- length no multiple of a record or below two of them: gate 0; else the first faulty gate
-unfoldable pub list_fault : List ℕ → Answer
+unfoldable pub list_fault : List ℕ → Result (Unit {0}) Refusal
 list_fault l =
     pick (whole_records l && leb 2 (records l))
-    (pick (ltb (first (records l) (faulty l)) (records l)) (GateList (first (records l) (faulty l))) Done)
-    (GateList 0)
+    (pick (ltb (first (records l) (faulty l)) (records l)) (Err (GateList (first (records l) (faulty l)))) (Ok tt))
+    (Err (GateList 0))

@@ -1,3 +1,4 @@
+pub mod Sheet
 pub mod Record
 pub mod Kind
 pub mod Bit

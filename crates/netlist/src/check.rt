@@ -1,116 +1,98 @@
 // The gate list's check: refusal 11, with the first faulty gate.
 ghost use Rattle.std.specs.Prelude.{◌≡◌, ℕ, ◌+◌};
-ghost use Rattle.loops.specs.Loop.{first};
+ghost use Rattle.loops.specs.Loop.{found};
 ghost use Rattle.netlist.specs.Record.{Room, records};
 ghost use Rattle.netlist.specs.Check as check;
-ghost use Rattle.netlist.specs.Check.{field_good, const_good, later_good, faulty, list_fault, is_done};
+ghost use Rattle.netlist.specs.Check.{field_good, const_good, later_good, faulty, list_fault};
 
 use crate::record;
 use crate::record::Gate;
+use crate::sheet::OnSheet;
 
-// What the check and the gate evaluator answer: Done, or refusal 11, 12 or 13.
-#[derive(Clone, Copy)]
-pub enum Answer {
-    Done,
+// Refusals 11, 12 and 13 of the sheet: a faulty gate, a value buffer that is too short, a free gate whose value is neither 0 nor 1.
+#[derive(Clone, Copy, Debug, PartialEq, Eq)]
+pub enum Refusal {
     GateList(usize),
     ValueRoom,
     Input(usize),
 }
 
-// An answer's number on the refusal sheet; 0 is no refusal.
-pub fn number(a: Answer) -> u64
-    ensures { result ≡ check.number a }
-{
-    match a {
-        Answer::Done => 0,
-        Answer::GateList(_) => 11,
-        Answer::ValueRoom => 12,
-        Answer::Input(_) => 13,
-    }
-}
+impl OnSheet for Refusal {
+    ghost number_of = { check.number_of };
 
-// The gate that stands beside it.
-pub fn place(a: Answer) -> usize
-    ensures { result ≡ check.place a }
-{
-    match a {
-        Answer::Done => 0,
-        Answer::GateList(i) => i,
-        Answer::ValueRoom => 0,
-        Answer::Input(i) => i,
-    }
-}
+    ghost place_of = { check.place_of };
 
-pub fn is_done(a: Answer) -> bool
-    ensures { result ≡ is_done a }
-{
-    match a {
-        Answer::Done => true,
-        Answer::GateList(_) => false,
-        Answer::ValueRoom => false,
-        Answer::Input(_) => false,
+    fn number(self) -> u64 {
+        match self {
+            Refusal::GateList(_) => 11,
+            Refusal::ValueRoom => 12,
+            Refusal::Input(_) => 13,
+        }
+    }
+
+    // The gate that stands beside it.
+    fn place(self) -> usize {
+        match self {
+            Refusal::GateList(i) | Refusal::Input(i) => i,
+            Refusal::ValueRoom => 0,
+        }
     }
 }
 
 // An operand names an earlier gate, an unused field is 0.
+#[tactic(auto, unfolding(crate::specs::Check::field_good))]
 fn field_good(used: bool, i: usize, v: u32) -> bool
     ensures { result ≡ field_good used i v }
 {
-    (used & ((v as usize) < i)) | (!used & (v == 0))
+    if used { (v as usize) < i } else { v == 0 }
 }
 
-fn const_good(i: usize, g: Gate) -> bool
-    ensures { result ≡ const_good i g }
-{
-    ((g.kind as usize) == i) & (g.x == 0) & (g.y == 0) & (g.z == 0)
+impl Gate {
+    // Whether this is the constant that gate i is to be, for i below 2.
+    #[tactic(auto, unfolding(crate::specs::Check::const_good))]
+    fn const_good(self, i: usize) -> bool
+        ensures { result ≡ const_good i self }
+    {
+        self.kind as usize == i && self.x == 0 && self.y == 0 && self.z == 0
+    }
+
+    // Whether gate i may be this one, for i from 2 on.
+    #[tactic(auto, unfolding(crate::specs::Check::later_good))]
+    fn later_good(self, i: usize) -> bool
+        ensures { result ≡ later_good i self }
+    {
+        (Gate::is_free(self.kind) && self.z == 0)
+            || (Gate::NOT <= self.kind
+                && self.kind <= Gate::RESULT_FULL
+                && (self.x as usize) < i
+                && field_good(Gate::uses_y(self.kind), i, self.y)
+                && field_good(Gate::uses_z(self.kind), i, self.z))
+    }
 }
 
-fn later_good(i: usize, g: Gate) -> bool
-    ensures { result ≡ later_good i g }
-{
-    (Gate::is_free(g.kind) & (g.z == 0))
-        | ((Gate::NOT <= g.kind)
-            & (g.kind <= Gate::RESULT_FULL)
-            & ((g.x as usize) < i)
-            & field_good(Gate::uses_y(g.kind), i, g.y)
-            & field_good(Gate::uses_z(g.kind), i, g.z))
-}
-
+#[tactic(auto, unfolding(crate::specs::Check::faulty, loops::specs::Loop::pick))]
 fn is_faulty(gates: &[u32], i: usize) -> bool
     requires { Room gates.now (i + 1) }
     ensures { result ≡ faulty gates.now i }
 {
-    let g = record::gate_at(gates, i);
+    let gate = record::gate_at(gates, i);
     if i < 2 {
-        return !const_good(i, g);
+        !gate.const_good(i)
+    } else {
+        !gate.later_good(i)
     }
-    !later_good(i, g)
 }
 
-fn first_faulty(gates: &[u32], n: usize) -> usize
-    requires { Room gates.now n }
-    ensures { result ≡ first n (faulty gates.now) }
-{
-    let mut i = 0;
-    while i < n {
-        if is_faulty(gates, i) {
-            return i;
-        }
-        i += 1;
-    }
-    i
-}
-
-pub fn check_gates(gates: &[u32]) -> Answer
+#[tactic(auto, using(crate::proofs::Paths::list_size))]
+pub fn check_gates(gates: &[u32]) -> Result<(), Refusal>
     ensures { result ≡ list_fault gates.now }
 {
     let n = record::count(gates);
-    if record::no_rest(gates) & (2 <= n) {
-        let i = first_faulty(gates, n);
-        if i < n {
-            return Answer::GateList(i);
-        }
-        return Answer::Done;
+    if !record::no_rest(gates) || n < 2 {
+        return Err(Refusal::GateList(0));
     }
-    Answer::GateList(0)
+    match (0..n).find(|&i| is_faulty(gates, i)) {
+        Some(i) => Err(Refusal::GateList(i)),
+        None => Ok(()),
+    }
 }

@@ -4,6 +4,8 @@ ghost use Rattle.netlist.specs.Kind.{free, uses_y, uses_z, value_of};
 
 use crate::record::Gate;
 
+// Kinds are numbers and no enum: a record is four numbers of the lent buffer (the C interface), and what is_free, uses_y, uses_z and value
+// promise they promise of every number.
 impl Gate {
     pub const CONST_FALSE: u32 = 0;
 
@@ -34,26 +36,30 @@ impl Gate {
     pub const REMAINDER: u32 = 13;
 
     // Given from outside, and not by its operands.
+    #[tactic(auto, unfolding(crate::specs::Kind::free))]
     pub fn is_free(kind: u32) -> bool
         ensures { result ≡ free kind }
     {
-        (kind == Gate::INPUT_BIT) | (kind == Gate::QUOTIENT) | (kind == Gate::REMAINDER)
+        matches!(kind, Gate::INPUT_BIT | Gate::QUOTIENT | Gate::REMAINDER)
     }
 
     // Of a kind that is not free: whether y, and whether z, is an operand.
+    #[tactic(auto, unfolding(crate::specs::Kind::uses_y))]
     pub fn uses_y(kind: u32) -> bool
         ensures { result ≡ uses_y kind }
     {
         kind != Gate::NOT
     }
 
+    #[tactic(auto, unfolding(crate::specs::Kind::uses_z))]
     pub fn uses_z(kind: u32) -> bool
         ensures { result ≡ uses_z kind }
     {
-        (kind == Gate::CARRY_FULL) | (kind == Gate::RESULT_FULL)
+        matches!(kind, Gate::CARRY_FULL | Gate::RESULT_FULL)
     }
 
     // What a kind says of its operands' values.
+    #[tactic(auto, unfolding(crate::specs::Kind::value_of, loops::specs::Loop::pick))]
     pub fn value(kind: u32, x: bool, y: bool, z: bool) -> bool
         ensures { result ≡ value_of kind x y z }
     {

@@ -6,3 +6,4 @@ pub mod check;
 pub mod eval;
 pub mod kind;
 pub mod record;
+pub mod sheet;

@@ -15,6 +15,7 @@ pub struct Gate {
 }
 
 // Record i.
+#[tactic(auto, unfolding(crate::specs::Record::gate_at))]
 pub fn gate_at(gates: &[u32], i: usize) -> Gate
     requires { Room gates.now (i + 1) }
     ensures { result ≡ gate_at gates.now i }
@@ -29,6 +30,7 @@ pub fn gate_at(gates: &[u32], i: usize) -> Gate
 }
 
 // The one function that writes a record.
+#[tactic(auto, unfolding(crate::specs::Record::put))]
 pub fn put_gate(gates: &mut [u32], i: usize, g: Gate)
     requires { Room gates.old (i + 1) }
     ensures { gates.new ≡ put gates.old i g }

@@ -1,17 +1,13 @@
-use borrow.Author.Rules.{rules}
-use native.Mathlib.Omega.{arith}
-use Rattle.loops.proofs.Loop.{first-none, first_more, first_found, first_done}
-use Rattle.digits.proofs.Words.{unknown-path, found-path, none-path}
+use Rattle.std.proofs.Common.{rules, tests, ◌∙◌}
+use Rattle.std.proofs.lemmas.Iterator.{YieldsList-from_slice}
+use Rattle.std.proofs.lemmas.Iterator.Search.{all_from_yields_List}
+use Rattle.loops.proofs.Search.{every}
+use Rattle.netlist.specs.Bit.{is_known}
+use Rattle.digits.specs.Digits.{all_known, unknown_at}
 use Rattle.digits.proofs.all_known.Goals as goal
 
-pub loop-i-init : goal.loop-i-init
-loop-i-init c = (omega arith, first-none _)
-
-pub returns-then-not-is_known : goal.returns-then-not-is_known
-returns-then-not-is_known c = search (rules, found-path, first_found, unknown-path)
-
-pub loop-i-preserved : goal.loop-i-preserved
-loop-i-preserved c = (omega arith, search (rules, first_more, unknown-path))
-
 pub returns : goal.returns
-returns c = search (rules, none-path, first_done)
+unfolding all_known unknown_at
+returns c =
+    let bits = c.args.bits.now in
+    all_from_yields_List is_known _ _ c.all.result c.all.ensures.ran (YieldsList-from_slice bits cc) (λ x b q k. search (rules, tests)) ∙ every is_known bits 0

@@ -1,17 +1,10 @@
-use native.Mathlib.Omega.{arith}
-use borrow.Author.Rules.{rules}
-use Rattle.loops.proofs.Loop.{first-none}
-use Rattle.digits.proofs.Words.{power-here, power-next, powers-done}
+use Rattle.std.proofs.Common.{◌*◌, ◌%◌, ◌^◌, ◌∙◌, rules, tests}
+use lib.Dec.{leb}
+use Rattle.loops.proofs.Search.{found_by_find}
+use Rattle.digits.proofs.Words.{powers_found}
 use Rattle.digits.proofs.powers_below.Goals as goal
 
-pub loop-j-init : goal.loop-j-init
-loop-j-init c = (omega arith, first-none _)
-
-pub returns-then-w-j : goal.returns-then-w-j
-returns-then-w-j c = search (rules, power-here)
-
-pub loop-j-preserved : goal.loop-j-preserved
-loop-j-preserved c = (omega arith, power-next c.args.w c.loop-j.j c.loop-j-test.true c.requires c.loop-j.invariant.1 c.if-w-j.false)
-
 pub returns : goal.returns
-returns c = search (rules, powers-done)
+returns c =
+    let w = c.args.w in
+    c.unwrap_or.ensures ∙ powers_found w c.requires _ (found_by_find (λ j. leb w (1 * 2 ^ j % 2 ^ 64)) w _ _ _ c.find.ensures.ran (λ x b q k. search (rules, tests)))
