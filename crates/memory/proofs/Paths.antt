@@ -12,8 +12,11 @@ use Rattle.std.proofs.lemmas.List.{places, ext_get_or, take_all, length-take-le,
 use lib.Seq.{get_or-set_same, get_or-set_other}
 use lib.ListN.{length, get_or, take, drop, replicate}
 use borrow.Author.Tests.{lt-ltb, le-ltb}
-use Rattle.loops.specs.Loop.{pick, iter}
+use Rattle.std.specs.Prelude.{Some, None}
+use Rattle.loops.specs.Loop.{pick, iter, first, found}
 use Rattle.loops.proofs.Loop.{by-pick, iter-inv}
+use Rattle.loops.proofs.Search.{some_first, none_first}
+use Rattle.table.specs.Sheet.{is_at}
 use Rattle.netlist.specs.Net.{Net}
 use Rattle.gates.specs.declared.list.GateList.{GateList}
 use Rattle.gates.specs.Made.{MadeBit, net_of, made_of}
@@ -34,7 +37,7 @@ use Rattle.words.proofs.Paths.{each-most}
 use Rattle.memory.specs.Address.{part, listed_at, at_listed}
 use Rattle.memory.specs.Read.{cleared, read_known, read_one, read_step, read_words}
 use Rattle.memory.specs.Write.{write_known, write_one, write_step, write_words}
-use Rattle.memory.proofs.AddressLaws.{digits-known, at-ext}
+use Rattle.memory.proofs.AddressLaws.{digits-known, at-ext, word_end}
 use Rattle.memory.proofs.ReadLaws.{put_low, one-ext}
 use Rattle.memory.proofs.WriteLaws.{step-ext}
 
@@ -51,23 +54,26 @@ at_most : (w a : ℕ) (adr : List ℕ) (s : Net) (t : GateList) (b : ℕ) → 1 
 at_most w a adr s t b big small e = omega (arith, ap (λ (m : MadeBit). m.net.n) e, (at-ext w a adr s big small).grows.upto)
 
 -- a known address
-module _ (n w : ℕ) (addrs mem : List ℕ) (a i : ℕ) (out out' : List ℕ) (e : i ≡ listed_at n addrs a) where
-  pub read-listed : i < n → out' ≡ put_bits 0 (take (i * w + w - i * w) (drop (i * w) mem)) w out → out' ≡ read_known n w addrs mem a out
+pub listed-end : (addrs : List ℕ) (a i w : ℕ) → Some i ≡ found (length addrs) (is_at addrs a) → i * w + w ≤ length addrs * w
+listed-end addrs a i w e = word_end i (length addrs) w (some_first (is_at addrs a) (length addrs) i e).1
+
+module _ (w : ℕ) (addrs mem : List ℕ) (a : ℕ) (out out' : List ℕ) where
+  pub read-listed : (i : ℕ) → Some i ≡ found (length addrs) (is_at addrs a) → out' ≡ put_bits 0 (take (i * w + w - i * w) (drop (i * w) mem)) w out → out' ≡ read_known (length addrs) w addrs mem a out
   unfolding read_known pick
-  read-listed l q = let p : i * w + w - i * w ≡ w = omega arith in rw (← e, lt-ltb i n l) (rw p at q)
+  read-listed i e q = let z = some_first (is_at addrs a) (length addrs) i e in let p : i * w + w - i * w ≡ w = omega arith in rw (← z.0, lt-ltb i (length addrs) z.1) (rw p at q)
 
-  pub read-unlisted : n ≤ i → out' ≡ put_bits 0 blank w out → out' ≡ read_known n w addrs mem a out
+  pub read-unlisted : None ≡ found (length addrs) (is_at addrs a) → out' ≡ put_bits 0 blank w out → out' ≡ read_known (length addrs) w addrs mem a out
   unfolding read_known pick
-  read-unlisted l q = rw (← e, le-ltb i n l) q
+  read-unlisted e q = rw (le-ltb (first (length addrs) (is_at addrs a)) (length addrs) (none_first (is_at addrs a) (length addrs) e)) q
 
-module _ (n w : ℕ) (addrs val : List ℕ) (a i : ℕ) (mem mem' : List ℕ) (e : i ≡ listed_at n addrs a) where
-  pub write-listed : i < n → mem' ≡ put_bits (i * w) val w mem → mem' ≡ write_known n w addrs a val mem
+module _ (w : ℕ) (addrs val : List ℕ) (a : ℕ) (mem mem' : List ℕ) where
+  pub write-listed : (i : ℕ) → Some i ≡ found (length addrs) (is_at addrs a) → mem' ≡ put_bits (i * w) val w mem → mem' ≡ write_known (length addrs) w addrs a val mem
   unfolding write_known pick
-  write-listed l q = rw (← e, lt-ltb i n l) q
+  write-listed i e q = let z = some_first (is_at addrs a) (length addrs) i e in rw (← z.0, lt-ltb i (length addrs) z.1) q
 
-  pub write-unlisted : n ≤ i → mem ≡ write_known n w addrs a val mem
+  pub write-unlisted : None ≡ found (length addrs) (is_at addrs a) → mem ≡ write_known (length addrs) w addrs a val mem
   unfolding write_known pick
-  write-unlisted l = rw (← e, le-ltb i n l)
+  write-unlisted e = rw (le-ltb (first (length addrs) (is_at addrs a)) (length addrs) (none_first (is_at addrs a) (length addrs) e))
 
 -- w places filled with known false
 pub clear-path : (w : ℕ) (out filled : List ℕ) → w ≤ 64 → w ≤ length out → filled ≡ replicate (length (take w out)) 0 → filled ++ drop w out ≡ cleared w out

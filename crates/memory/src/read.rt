@@ -15,8 +15,7 @@ fn read_known(addrs: &[u64], mem: &[u32], a: u64, w: usize, out: &mut [u32])
     requires { (length addrs.now * w ≤ length mem.now) × (w ≤ 64) × (w ≤ length out.old) }
     ensures { out.new ≡ read_known (length addrs.now) w addrs.now mem.now a out.old }
 {
-    let i = find(addrs, addrs.len(), a);
-    if i < addrs.len() {
+    if let Some(i) = find(addrs, a) {
         let from = i * w;
         each::put_bits(out, 0, &mem[from..from + w], w);
         return;

@@ -15,8 +15,7 @@ fn write_known(addrs: &[u64], a: u64, val: &[u32], w: usize, mem: &mut [u32])
     requires { (length addrs.now * w ≤ length mem.old) × (w ≤ length val.now) }
     ensures { mem.new ≡ write_known (length addrs.now) w addrs.now a val.now mem.old }
 {
-    let i = find(addrs, addrs.len(), a);
-    if i < addrs.len() {
+    if let Some(i) = find(addrs, a) {
         let from = i * w;
         each::put_bits(mem, from, val, w);
     }

@@ -1,6 +1,6 @@
 -- Word values, as BTOR2 and SMT-LIB's FixedSizeBitVectors: what a node's kind makes of the values of its operands.
-use Rattle.std.specs.Prelude.{ℕ, ◌+◌, ◌-◌, ◌/◌, ◌%◌, ◌^◌, List, length, ◌==◌, nat_lt, slice_index}
-use Rattle.loops.specs.Loop.{pick, first}
+use Rattle.std.specs.Prelude.{ℕ, ◌+◌, ◌-◌, ◌/◌, ◌%◌, ◌^◌, List, length, ◌==◌, nat_lt, slice_index, Option, Some, None}
+use Rattle.loops.specs.Loop.{pick, found}
 use Rattle.digits.specs.Op.{op_value}
 unfoldable pub use Rattle.digits.specs.Op.{not_word, add_word, sub_word, mul_word, sll_word, srl_word}
 use Rattle.table.specs.declared.Node.{Node}
@@ -28,35 +28,37 @@ word_value d v x y =
     (pick (d.kind == SEXT) (sext_word v d.width x)
     (by_op d.kind x (λ o. op_value o d.width x y)))))
 
--- the place of an address among the listed ones; their number where it is not listed
-abbrev pub listed : List ℕ → ℕ → ℕ
-listed l x = first (length l) (is_at l x)
+-- the place of an address among the listed ones, if it is listed
+abbrev pub listed : List ℕ → ℕ → Option ℕ
+listed l x = found (length l) (is_at l x)
 
 -- a read of the memory at o, where the address stands at place p of the list: 0 where it is not listed
-unfoldable pub read_value : List ℕ → List ℕ → ℕ → ℕ → ℕ
-read_value l vals o p = pick (nat_lt p (length l)) (slice_index vals (o + p)) 0
+unfoldable pub read_value : List ℕ → ℕ → Option ℕ → ℕ
+read_value vals o (Some p) = slice_index vals (o + p)
+read_value vals o None = 0
 
 -- word j of the memory at o after a write of y, where the address stands at place p: nothing changes where it is not listed
-unfoldable pub write_value : List ℕ → ℕ → ℕ → ℕ → ℕ → ℕ
-write_value vals o p y j = pick (j == p) y (slice_index vals (o + j))
+unfoldable pub write_value : List ℕ → ℕ → Option ℕ → ℕ → ℕ → ℕ
+write_value vals o (Some p) y j = pick (j == p) y (slice_index vals (o + j))
+write_value vals o None y j = slice_index vals (o + j)
 
 -- slot j of a choice
 unfoldable pub ite_value : List ℕ → ℕ → ℕ → ℕ → ℕ → ℕ
 ite_value vals a b c j = pick (slice_index vals a == 1) (slice_index vals (b + j)) (slice_index vals (c + j))
 
 -- the place of the address that a read or write has in slot b
-unfoldable pub place_at : List ℕ → Node → List ℕ → ℕ → ℕ
-place_at l d vals b = pick (accesses d.kind) (listed l (slice_index vals b)) 0
+unfoldable pub place_at : List ℕ → Node → List ℕ → ℕ → Option ℕ
+place_at l d vals b = pick (accesses d.kind) (listed l (slice_index vals b)) None
 
 -- slot j of a node, over operands whose slots begin at a, b and c, of which the first is v wide, with its address at place p: a word has slot 0 alone, a memory
 -- one for each listed address
-unfoldable pub slot_at : List ℕ → Node → ℕ → List ℕ → ℕ → ℕ → ℕ → ℕ → ℕ → ℕ
-slot_at l d v vals a b c p j =
+unfoldable pub slot_at : Node → ℕ → List ℕ → ℕ → ℕ → ℕ → Option ℕ → ℕ → ℕ
+slot_at d v vals a b c p j =
     pick (d.kind == STATE) (slice_index vals (a + j))
     (pick (d.kind == ITE) (ite_value vals a b c j)
-    (pick (d.kind == READ) (read_value l vals a p)
+    (pick (d.kind == READ) (read_value vals a p)
     (pick (d.kind == WRITE) (write_value vals a p (slice_index vals c) j)
     (word_value d v (slice_index vals a) (slice_index vals b)))))
 
 abbrev pub slot_value : List ℕ → Node → ℕ → List ℕ → ℕ → ℕ → ℕ → ℕ → ℕ
-slot_value l d v vals a b c j = slot_at l d v vals a b c (place_at l d vals b) j
+slot_value l d v vals a b c j = slot_at d v vals a b c (place_at l d vals b) j

@@ -6,6 +6,7 @@ ghost use Rattle.values.specs.declared.Refusal.TheVariants.{Table};
 
 pub mod value; // a word from the words of its operands
 pub mod slot; // a slot of a node: words, choices and memories
+pub mod layout; // where the slots of a table's nodes begin
 pub mod input; // refusal 13
 pub mod eval; // the evaluator
 

@@ -1,6 +1,9 @@
-ghost use Rattle.std.specs.Prelude.{◌≡◌, ◌≤◌, length, slice_index};
+ghost use Rattle.std.specs.Prelude.{◌≡◌, ◌+◌, ◌≤◌, ◌<◌, length, slice_index};
+ghost use Rattle.std.specs.Option.{ForSome};
+ghost use Rattle.loops.specs.Loop.{iter};
 ghost use Rattle.table.specs.Size.{size_of};
 ghost use Rattle.values.specs.Value.{read_value, write_value, ite_value, place_at, slot_at};
+ghost use Rattle.values.specs.Eval.{slot_step};
 
 use crate::value::word_value;
 use table::kind::{ITE, READ, STATE, WRITE, accesses};
@@ -12,10 +15,7 @@ use table::{Node, Unit};
 pub fn at(values: &[u64], i: usize) -> u64
     ensures { result ≡ slice_index values.now i }
 {
-    if i < values.len() {
-        return values[i];
-    }
-    0
+    values.get(i).copied().unwrap_or(0)
 }
 
 // The slots of a node.
@@ -27,75 +27,91 @@ pub fn slots_of(addrs: &[u64], node: Node) -> usize
     size_of(Unit::Slot, n, 0, node.width) as usize
 }
 
-// A read of the memory at o, where the address stands at place p of the list: 0 where it is not listed.
-fn read_value(addrs: &[u64], values: &[u64], o: usize, p: usize) -> u64
-    requires { (length addrs.now ≤ 64) × (o ≤ 65536) }
-    ensures { result ≡ read_value addrs.now values.now o p }
-{
-    if p < addrs.len() {
-        return at(values, o + p);
-    }
-    0
-}
-
-// Word j of the memory at o after a write of y at place p: as it was everywhere else.
-fn write_value(values: &[u64], o: usize, p: usize, y: u64, j: usize) -> u64
-    requires { (j ≤ 64) × (o ≤ 65536) }
-    ensures { result ≡ write_value values.now o p y j }
-{
-    if j == p {
-        return y;
-    }
-    at(values, o + j)
-}
-
 // The place of the address that a read or write has in slot b. It is looked for once a node, not once a slot.
-pub fn place_at(addrs: &[u64], node: Node, values: &[u64], b: usize) -> usize
+#[tactic(auto, unfolding(crate::specs::Value::place_at, loops::specs::Loop::pick))]
+pub fn place_at(addrs: &[u64], node: Node, values: &[u64], b: usize) -> Option<usize>
     ensures { result ≡ place_at addrs.now node values.now b }
 {
-    if !accesses(node.kind) {
-        return 0;
+    if accesses(node.kind) {
+        find(addrs, at(values, b))
+    } else {
+        None
     }
-    find(addrs, addrs.len(), at(values, b))
 }
 
-fn ite_value(values: &[u64], a: usize, b: usize, c: usize, j: usize) -> u64
-    requires { (b ≤ 65536) × (c ≤ 65536) × (j ≤ 64) }
-    ensures { result ≡ ite_value values.now a b c j }
-{
-    if at(values, a) == 1 {
-        return at(values, b + j);
-    }
-    at(values, c + j)
+// A node that is worked out: its operands' slots begin at a, b and c, the first operand is v wide, and the address stands at place p of the list.
+#[derive(Clone, Copy)]
+pub struct Operands {
+    pub node: Node,
+    pub v: u64,
+    pub a: usize,
+    pub b: usize,
+    pub c: usize,
+    pub p: Option<usize>,
+    pub ghost narrow: { (node.width ≤ 64) × (v ≤ 64) },
+    pub ghost near: { (a ≤ 65536) × (b ≤ 65536) × (c ≤ 65536) },
+    pub ghost placed: { ForSome p (λ i. i < 64) },
 }
 
-// Slot j of a node, over operands whose slots begin at a, b and c, of which the first is v wide, with its address at place p.
-pub fn slot_at(
-    addrs: &[u64],
-    node: Node,
-    v: u64,
-    values: &[u64],
-    a: usize,
-    b: usize,
-    c: usize,
-    p: usize,
-    j: usize,
-) -> u64
-    requires { (length addrs.now ≤ 64) × (node.width ≤ 64) × (v ≤ 64) × (a ≤ 65536) × (b ≤ 65536) × (c ≤ 65536) × (j ≤ 64) }
-    ensures { result ≡ slot_at addrs.now node v values.now a b c p j }
-{
-    let k = node.kind;
-    if k == STATE {
-        return at(values, a + j);
+impl Operands {
+    // A read of the memory at a: 0 where the address is not listed.
+    #[tactic(auto, unfolding(crate::specs::Value::read_value))]
+    fn read_value(self, values: &[u64]) -> u64
+        ensures { result ≡ read_value values.now self.a self.p }
+    {
+        match self.p {
+            Some(i) => at(values, self.a + i),
+            None => 0,
+        }
     }
-    if k == ITE {
-        return ite_value(values, a, b, c, j);
+
+    // Word j of the memory at a after a write of the word at c: as it was everywhere but at the address.
+    #[tactic(auto, unfolding(crate::specs::Value::write_value, loops::specs::Loop::pick))]
+    fn write_value(self, values: &[u64], j: usize) -> u64
+        requires { j ≤ 64 }
+        ensures { result ≡ write_value values.now self.a self.p (slice_index values.now self.c) j }
+    {
+        match self.p {
+            Some(i) if j == i => at(values, self.c),
+            _ => at(values, self.a + j),
+        }
     }
-    if k == READ {
-        return read_value(addrs, values, a, p);
+
+    #[tactic(auto, unfolding(crate::specs::Value::ite_value, loops::specs::Loop::pick))]
+    fn ite_value(self, values: &[u64], j: usize) -> u64
+        requires { j ≤ 64 }
+        ensures { result ≡ ite_value values.now self.a self.b self.c j }
+    {
+        let chosen = if at(values, self.a) == 1 {
+            self.b
+        } else {
+            self.c
+        };
+        at(values, chosen + j)
     }
-    if k == WRITE {
-        return write_value(values, a, p, at(values, c), j);
+
+    // Slot j of the node.
+    #[tactic(auto, unfolding(crate::specs::Value::slot_at, loops::specs::Loop::pick))]
+    pub fn slot_at(self, values: &[u64], j: usize) -> u64
+        requires { j ≤ 64 }
+        ensures { result ≡ slot_at self.node self.v values.now self.a self.b self.c self.p j }
+    {
+        match self.node.kind {
+            STATE => at(values, self.a + j),
+            ITE => self.ite_value(values, j),
+            READ => self.read_value(values),
+            WRITE => self.write_value(values, j),
+            _ => word_value(self.node, self.v, at(values, self.a), at(values, self.b)),
+        }
     }
-    word_value(node, v, at(values, a), at(values, b))
+
+    // The m slots of the node, from o on.
+    pub fn fill(self, o: usize, m: usize, values: &mut [u64])
+        requires { (o ≤ 65536) × (m ≤ 64) × (o + m ≤ length values.old) }
+        ensures { values.new ≡ iter m (slot_step self.node self.v o self.a self.b self.c self.p) values.old }
+    {
+        for j in 0..m {
+            values[o + j] = self.slot_at(values, j);
+        }
+    }
 }

@@ -118,53 +118,35 @@ fn sext_word(v: u64, w: u64, x: u64) -> u64
 }
 
 // A word node's value, over the values x of its first operand, which is v wide, and y of its second.
+#[tactic(
+    auto,
+    unfolding(
+        crate::specs::Value::word_value,
+        table::specs::Op::by_op,
+        digits::specs::Op::op_value,
+        loops::specs::Loop::pick
+    )
+)]
 pub fn word_value(node: Node, v: u64, x: u64, y: u64) -> u64
     requires { (node.width ≤ 64) × (v ≤ 64) }
     ensures { result ≡ word_value node v x y }
 {
-    let k = node.kind;
     let w = node.width;
-    if k == CONST {
-        return node.imm;
+    match node.kind {
+        CONST => node.imm,
+        DIVU => div_word(w, x, y),
+        REM => rem_word(x, y),
+        SEXT => sext_word(v, w, x),
+        NOT => not_word(w, x),
+        AND => x & y,
+        EQ => (x == y) as u64,
+        ADD => add_word(w, x, y),
+        SUB => sub_word(w, x, y),
+        ULT => (x < y) as u64,
+        MUL => mul_word(w, x, y),
+        OR => x | y,
+        SLL => sll_word(w, x, y),
+        SRL => srl_word(w, x, y),
+        _ => x,
     }
-    if k == DIVU {
-        return div_word(w, x, y);
-    }
-    if k == REM {
-        return rem_word(x, y);
-    }
-    if k == SEXT {
-        return sext_word(v, w, x);
-    }
-    if k == NOT {
-        return not_word(w, x);
-    }
-    if k == AND {
-        return x & y;
-    }
-    if k == EQ {
-        return (x == y) as u64;
-    }
-    if k == ADD {
-        return add_word(w, x, y);
-    }
-    if k == SUB {
-        return sub_word(w, x, y);
-    }
-    if k == ULT {
-        return (x < y) as u64;
-    }
-    if k == MUL {
-        return mul_word(w, x, y);
-    }
-    if k == OR {
-        return x | y;
-    }
-    if k == SLL {
-        return sll_word(w, x, y);
-    }
-    if k == SRL {
-        return srl_word(w, x, y);
-    }
-    x
 }

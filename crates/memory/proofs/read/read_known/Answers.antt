@@ -1,24 +1,24 @@
-use Rattle.words.specs.Num.{filled}
+use mathlib.Core.Path.{sym, ◌∙◌}
 use native.Mathlib.Omega.{arith}
-use Rattle.memory.proofs.AddressLaws.{word_end}
-use Rattle.memory.proofs.Paths.{read-listed, read-unlisted}
 use borrow.Author.Rules.{rules}
+use Rattle.words.specs.Num.{filled}
+use Rattle.memory.proofs.Paths.{listed-end, read-listed, read-unlisted}
 use Rattle.memory.proofs.read.read_known.Goals as goal
 
 pub overflow_mul-from : goal.overflow_mul-from
-overflow_mul-from c = omega (arith, word_end _ _ c.args.w c.if-i-addrs.true)
+overflow_mul-from c = omega (arith, listed-end _ _ _ c.args.w (sym c.in-Some.is ∙ c.find.ensures))
 
 pub overflow_add-from : goal.overflow_add-from
-overflow_add-from c = omega (arith, word_end _ _ c.args.w c.if-i-addrs.true)
+overflow_add-from c = omega (arith, listed-end _ _ _ c.args.w (sym c.in-Some.is ∙ c.find.ensures))
 
 pub offset_bounds-mem-from : goal.offset_bounds-mem-from
-offset_bounds-mem-from c = omega (arith, word_end _ _ c.args.w c.if-i-addrs.true)
+offset_bounds-mem-from c = omega (arith, listed-end _ _ _ c.args.w (sym c.in-Some.is ∙ c.find.ensures))
 
 pub slice_bounds-put_bits-end : goal.slice_bounds-put_bits-end
-slice_bounds-put_bits-end c = omega (arith, word_end _ _ c.args.w c.if-i-addrs.true)
+slice_bounds-put_bits-end c = omega (arith, listed-end _ _ _ c.args.w (sym c.in-Some.is ∙ c.find.ensures))
 
-pub returns-then-i-addrs : goal.returns-then-i-addrs
-returns-then-i-addrs c = search (rules, read-listed)
+pub returns-in-Some : goal.returns-in-Some
+returns-in-Some c = read-listed _ _ _ _ _ _ _ (sym c.in-Some.is ∙ c.find.ensures) c.put_bits.ensures
 
 pub returns : goal.returns
 unfolding filled

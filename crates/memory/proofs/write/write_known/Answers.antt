@@ -1,17 +1,17 @@
+use mathlib.Core.Path.{sym, ◌∙◌}
 use native.Mathlib.Omega.{arith}
-use Rattle.memory.proofs.AddressLaws.{word_end}
-use Rattle.memory.proofs.Paths.{write-listed, write-unlisted}
 use borrow.Author.Rules.{rules}
+use Rattle.memory.proofs.Paths.{listed-end, write-listed, write-unlisted}
 use Rattle.memory.proofs.write.write_known.Goals as goal
 
 pub overflow_mul-from : goal.overflow_mul-from
-overflow_mul-from c = omega (arith, word_end _ _ c.args.w c.if-i-addrs.true)
+overflow_mul-from c = omega (arith, listed-end _ _ _ c.args.w (sym c.in-Some.is ∙ c.find.ensures))
 
 pub put_bits-requires : goal.put_bits-requires
-put_bits-requires c = omega (arith, word_end _ _ c.args.w c.if-i-addrs.true)
+put_bits-requires c = omega (arith, listed-end _ _ _ c.args.w (sym c.in-Some.is ∙ c.find.ensures))
 
-pub returns-then-i-addrs : goal.returns-then-i-addrs
-returns-then-i-addrs c = search (rules, write-listed)
+pub returns-in-Some : goal.returns-in-Some
+returns-in-Some c = write-listed _ _ _ _ _ _ _ (sym c.in-Some.is ∙ c.find.ensures) c.put_bits.ensures
 
-pub returns-else-i-addrs : goal.returns-else-i-addrs
-returns-else-i-addrs c = search (rules, write-unlisted)
+pub returns-in_default : goal.returns-in_default
+returns-in_default c = search (rules, write-unlisted)

@@ -1,5 +1,6 @@
-use Rattle.std.proofs.Common.{arith}
+use Rattle.std.proofs.Common.{arith, rules, sym, ◌∙◌}
 use Rattle.table.proofs.size.Laws.{stored}
+use Rattle.loops.proofs.Search.{some_first}
 use Rattle.values.proofs.eval.Laws.{clear_room, clear-input, clear-done}
 use Rattle.values.proofs.eval.eval_clear.Goals as goal
 
@@ -9,14 +10,14 @@ offsets-room-requires c = record { n_bound = (c.requires.fine.short, omega arith
 pub returns-then-values-room : goal.returns-then-values-room
 returns-then-values-room c = clear_room _ _ _ _ _ c.offsets-room.ensures.0 (omega arith)
 
-pub first_bad_input-i-requires : goal.first_bad_input-i-requires
-first_bad_input-i-requires c = record { fine = c.requires.fine; offsets = stored _ _ _ _ _ _ (omega (arith, c.requires.fine.few, c.requires.in_bounds)) c.offsets-room.ensures.1 }
+pub invariant_of-layout : goal.invariant_of-layout
+invariant_of-layout c = record { ready = record { fine = c.requires.fine; offsets = stored _ _ _ _ _ _ (omega (arith, c.requires.fine.few, c.requires.in_bounds)) c.offsets-room.ensures.1 } }
 
-pub returns-then-i-m : goal.returns-then-i-m
-returns-then-i-m c = clear-input _ _ _ _ _ c.offsets-room.ensures.0 _ c.if-values-room.false c.first_bad_input-i.ensures c.if-i-m.true
+pub overflow_add-result : goal.overflow_add-result
+overflow_add-result c = omega (arith, (some_first _ _ _ (sym c.in-Some.is ∙ c.first_bad_input.ensures)).1, c.requires.fine.few)
 
-pub eval_all-requires : goal.eval_all-requires
-eval_all-requires c = record { ready = record { fine = c.requires.fine; offsets = stored _ _ _ _ _ _ (omega (arith, c.requires.fine.few, c.requires.in_bounds)) c.offsets-room.ensures.1 }; addrs_in_bounds = omega (arith, c.offsets-room.ensures.0) }
+pub returns-in-Some : goal.returns-in-Some
+returns-in-Some c = clear-input _ _ _ _ _ c.offsets-room.ensures.0 (omega arith) _ (sym c.in-Some.is ∙ c.first_bad_input.ensures)
 
 pub returns : goal.returns
-returns c = clear-done _ _ _ _ _ c.offsets-room.ensures.0 _ c.if-values-room.false c.first_bad_input-i.ensures _ c.if-i-m.false c.eval_all.ensures
+returns c = clear-done _ _ _ _ _ c.offsets-room.ensures.0 (omega arith) _ (sym c.in_default.is ∙ c.first_bad_input.ensures) c.eval_all.ensures
