@@ -82,19 +82,19 @@ pub part-first : (S : Source) (m : List ℕ) (x : ℕ) → take (wide_of S x) (d
 part-first S m x = let z : off_of S x ≡ off_of S x + 0 * wide_of S x = omega arith in ap (λ (i : ℕ). take (wide_of S x) (drop i m)) z
 
 -- inputs
-pub record Inputs (t : GateList) (long k : ℕ) (p : Place) : Type 0 where
-  pub room : Fits t (p.words * p.wide)
+pub record Inputs (list : GateList) (long k : ℕ) (p : Place) : Type 0 where
+  pub room : Fits list (p.words * p.wide)
   pub small : p.wide ≤ 64
   pub node : k < 4294967296
   pub bits : p.words * p.wide < 4294967296
   pub within : p.off + p.words * p.wide ≤ long
 
-pub input-asks : (S : Source) (o : List ℕ) (t : GateList) (long k : ℕ) (p : Place) → Makes S o t long k → given (node_of S k) ≡ true → p ≡ place_of S k → Inputs t long k p
-input-asks S o t long k p h e q =
+pub input-asks : (S : Source) (o : List ℕ) (list : GateList) (long k : ℕ) (p : Place) → Makes S o list long k → given (node_of S k) ≡ true → p ≡ place_of S k → Inputs list long k p
+input-asks S o list long k p h e q =
     let b : gates_of S k ≡ words_of S k * wide_of S k =
     gates-of S k h.stands.is.low ∙ top-given (listed S) S.word (node_of S k) (width_of S.table (node_of S k).a) e
     ∙ sym (bits-size S k h.stands.is.low) ∙ bits-words S k h.stands.is.low in
-    let i : Inputs t long k (place_of S k) =
+    let i : Inputs list long k (place_of S k) =
     record {
       room = omega (arith, h.room, b);
       small = wide-small S h.stands.clear k;
@@ -102,7 +102,7 @@ input-asks S o t long k p h e q =
       bits = omega (arith, h.room, b);
       within = place-within S o long k k h.stands h.stands.is.low (omega arith);
     } in
-    subst (λ (y : Place). Inputs t long k y) (sym q) i
+    subst (λ (y : Place). Inputs list long k y) (sym q) i
 
 inputs-same : (S : Source) (k i : ℕ) (x : Core) → inputs k (wide_of S k) i (as_is x.net x.map) ≡ input_word S k i x
 unfolding inputs input_word
@@ -268,15 +268,15 @@ module _ (S : Source) (o : List ℕ) (long k : ℕ) (h : Stands S o long k) wher
           ∙ sym (pick-false (is_known (condition_of S m k)) _ _ (rw (← cond-path e) (sym u ∙ t)))
 
 -- and with an unknown one
-pub record Chooses (t : GateList) (long cond left right : ℕ) (p : Place) : Type 0 where
-  pub room : Fits t (3 * (p.words * p.wide))
+pub record Chooses (list : GateList) (long cond left right : ℕ) (p : Place) : Type 0 where
+  pub room : Fits list (3 * (p.words * p.wide))
   pub small : p.wide ≤ 64
   pub cond-within : cond < long
   pub left-within : left + p.words * p.wide ≤ long
   pub right-within : right + p.words * p.wide ≤ long
   pub within : p.off + p.words * p.wide ≤ long
 
-module _ (S : Source) (o : List ℕ) (t : GateList) (long k : ℕ) (h : Makes S o t long k) (d : Node) (same : d ≡ node_of S k) (e : d.kind ≡ ITE) (p : Place) (q : p ≡ place_of S k) where
+module _ (S : Source) (o : List ℕ) (list : GateList) (long k : ℕ) (h : Makes S o list long k) (d : Node) (same : d ≡ node_of S k) (e : d.kind ≡ ITE) (p : Place) (q : p ≡ place_of S k) where
   ite : (node_of S k).kind ≡ ITE
   ite = ap (λ (x : Node). x.kind) (sym same) ∙ e
 
@@ -292,7 +292,7 @@ module _ (S : Source) (o : List ℕ) (t : GateList) (long k : ℕ) (h : Makes S 
   at_of : (x : ℕ) → x < k → get_or o x 0 ≡ off_of S x
   at_of x l = (offset S o long k h.stands x (omega arith)).1
 
-  choose-all : Chooses t long (off_of S (node_of S k).a) (off_of S (node_of S k).b) (off_of S (node_of S k).c) (place_of S k)
+  choose-all : Chooses list long (off_of S (node_of S k).a) (off_of S (node_of S k).b) (off_of S (node_of S k).c) (place_of S k)
   choose-all =
       record {
         room = omega (arith, h.room, ite_room);
@@ -307,7 +307,7 @@ module _ (S : Source) (o : List ℕ) (t : GateList) (long k : ℕ) (h : Makes S 
         within = place-within S o long k k h.stands h.stands.is.low (omega arith);
       }
 
-  pub choose-asks : Chooses t long (get_or o d.a 0) (get_or o d.b 0) (get_or o d.c 0) p
+  pub choose-asks : Chooses list long (get_or o d.a 0) (get_or o d.b 0) (get_or o d.c 0) p
   choose-asks = rw (q, same, at_of (node_of S k).a sides.a-less, at_of (node_of S k).b sides.b-less, at_of (node_of S k).c sides.c-less) choose-all
 
   choose-same : (i : ℕ) (x : Core)

@@ -132,8 +132,8 @@ plainly d g h i v r w =
     record { given = g; shares = h; chooses = ne_eqb d.kind ITE i; divides = v; reads = ne_eqb d.kind READ r; writes = ne_eqb d.kind WRITE w }
 
 -- the room of a node's own gates
-pub makes : {S : Source} {o m : List ℕ} {k : ℕ} {l : Lists} → Owns S o k (core_of l m) → Makes S o l.gates (length m) k
-makes h = record { stands = h.stands; room = (h.room, h.cap) }
+pub makes : {S : Source} {o m : List ℕ} {k : ℕ} (l : Lists) → Owns S o k (core_of l m) → Makes S o l.gates (length m) k
+makes l h = record { stands = h.stands; room = (h.room, h.cap) }
 
 -- the own step of a division
 pub own-divided : (S : Source) (k : ℕ) (s : Core) (d : Node) → d ≡ node_of S k → divides d.kind ≡ true → (r : Core) → r ≡ divide_own S k s → r ≡ own_step S k s

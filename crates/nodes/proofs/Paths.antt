@@ -7,7 +7,7 @@ use native.Mathlib.Omega.{arith}
 use lib.ListN.{length, get_or, set, take, drop}
 use borrow.Author.Tests.{ne_eqb}
 use Rattle.loops.specs.Loop.{pick, iter}
-use Rattle.loops.proofs.Loop.{iter-inv}
+use Rattle.loops.proofs.Loop.{iter-inv, for_loop}
 use Rattle.table.specs.declared.Node.{Node}
 use Rattle.table.specs.Kind.{CONST, NOT, AND, EQ, ADD, SUB, ULT, MUL, OR, SLL, SRL}
 use Rattle.table.specs.Op.{op_kind, by_op}
@@ -28,39 +28,52 @@ use Rattle.division.specs.Divide.{divide_words}
 use Rattle.nodes.specs.Own.{fresh, as_is, of_chain, input_step, plain_word}
 use Rattle.nodes.specs.Place.{placed, inputs, choices, share_at, in_front, plain_at, divide_at}
 use Rattle.nodes.proofs.OpKinds.{plain-is}
-
--- word i of several lies among them
-pub word_next : (i w : ℕ) → (i + 1) * w ≡ i * w + w
-word_next i w = omega arith
+use Rattle.nodes.proofs.Places.{part-within}
 
 -- InputBits
 input-one : (node from j : ℕ) (x : Word) → (input_step node from j x).net.n ≡ x.net.n + 1
 unfolding input_step added
 input-one node from j x = refl
 
-pub input-next : (node from j : ℕ) (s t : Word) → t ≡ input_step node from j s → t.net.n ≡ s.net.n + 1
-input-next node from j s t e = ap (λ (x : Word). x.net.n) e ∙ input-one node from j s
-
-input-count : (node from w : ℕ) (s : Word) → (iter w (input_step node from) s).net.n ≡ s.net.n + w
+pub input-count : (node from w : ℕ) (s : Word) → (iter w (input_step node from) s).net.n ≡ s.net.n + w
 input-count node from w s =
     iter-inv (λ i (x : Word). x.net.n ≡ s.net.n + i) (input_step node from) s w (omega arith) (λ i x lt h. omega (arith, input-one node from i x))
 
-pub input-words-next : (node to w i : ℕ) (s t : Word) → t ≡ placed to w (inputs node w) i s → t.net.n ≡ s.net.n + w
+inputs-one : (node to w i : ℕ) (s : Word) → (placed to w (inputs node w) i s).net.n ≡ s.net.n + w
 unfolding placed inputs
-input-words-next node to w i s t e = ap (λ (x : Word). x.net.n) e ∙ input-count node (i * w) w (fresh s.net)
+inputs-one node to w i s = input-count node (i * w) w (fresh s.net)
 
--- shared bits
+pub inputs-count : (node to w n : ℕ) (s : Word) → (iter n (placed to w (inputs node w)) s).net.n ≡ s.net.n + n * w
+inputs-count node to w n s =
+    iter-inv (λ i (x : Word). x.net.n ≡ s.net.n + i * w) (placed to w (inputs node w)) s n (omega arith) (λ i x lt h. omega (arith, inputs-one node to w i x))
+
 -- choices
-pub choose-words-next : (c a b to w i : ℕ) (s t : Word) → t ≡ placed to w (choices c a b w) i s → t.net.n ≤ s.net.n + 3 * w
+choices-one : (c a b to w i : ℕ) (s : Word) → (placed to w (choices c a b w) i s).net.n ≤ s.net.n + 3 * w
 unfolding placed choices
-choose-words-next c a b to w i s t e =
+choices-one c a b to w i s =
     let left : List ℕ = take w (drop (a + i * w) s.out) in
     let right : List ℕ = take w (drop (b + i * w) s.out) in
-    omega (arith, ap (λ (x : Word). x.net.n) e, (each-ext (op.Choose (get_or s.out c 0)) left right (fresh s.net) w).grows.upto, choose-cost (get_or s.out c 0) left right w)
+    omega (arith, (each-ext (op.Choose (get_or s.out c 0)) left right (fresh s.net) w).grows.upto, choose-cost (get_or s.out c 0) left right w)
+
+pub choices-upto : (c a b to w n : ℕ) (s : Word) → (iter n (placed to w (choices c a b w)) s).net.n ≤ s.net.n + 3 * (n * w)
+choices-upto c a b to w n s =
+    iter-inv (λ i (x : Word). x.net.n ≤ s.net.n + 3 * (i * w)) (placed to w (choices c a b w)) s n (omega arith) (λ i x lt h. omega (arith, choices-one c a b to w i x))
+
+-- a part that is taken from a place up to another
+pub part-long : (a w : ℕ) → a + w - a ≡ w
+part-long a w = omega arith
+
+pub ruleset steps = (for_loop, input-count, inputs-count, choices-upto, choose-cost, part-long, part-within, blank-long)
 
 -- the plain words
 pub blank-room : (out : List ℕ) → out ≡ blank → length out ≡ 65
 blank-room out h = ap length h ∙ blank-long
+
+pub bit-put : (t : GateList) (out : List ℕ) (b : ℕ) (m : MadeBit) → made_of t b ≡ m → word_of t (set out 0 b) ≡ in_front out m
+bit-put t out b m e = ap {B = Word} (λ (x : MadeBit). in_front out x) e
+
+pub chain-put : (t : GateList) (out : List ℕ) (c : ℕ) (x : Chain) → chain_of t c out ≡ x → word_of t out ≡ of_chain x
+chain-put t out c x e = ap {B = Word} (λ (y : Chain). of_chain y) e
 
 module _ (d : Node) (v : ℕ) (A B : List ℕ) (s : Net) (x : Word) (out : List ℕ) (h : out ≡ blank) where
   pub plain-const : d.kind ≡ CONST → x ≡ as_is s (put_digits d.imm d.width out) → x ≡ plain_word d v A B s

@@ -99,8 +99,8 @@ unfolding op_into
 not-any d v A B B' s f = plain-is d v A B s op_not f ∙ sym (plain-is d v A B' s op_not f)
 
 -- what plain_node is asked for, over the operand's word and that of `right`
-pub record Asks (t : GateList) (long : ℕ) (d : Node) (left : Place) (right : ℕ) (p : Place) : Type 0 where
-  pub room : Fits t (ceiling 0 0 d left.wide)
+pub record Asks (list : GateList) (long : ℕ) (d : Node) (left : Place) (right : ℕ) (p : Place) : Type 0 where
+  pub room : Fits list (ceiling 0 0 d left.wide)
   pub even : compares d.kind ≡ false → d.width ≡ left.wide
   pub some : 1 ≤ left.wide
   pub small : left.wide ≤ 64
@@ -109,7 +109,7 @@ pub record Asks (t : GateList) (long : ℕ) (d : Node) (left : Place) (right : �
   pub right-within : right + left.wide ≤ long
   pub within : p.off + d.width ≤ long
 
-module _ (S : Source) (o : List ℕ) (t : GateList) (long k : ℕ) (h : Makes S o t long k) where
+module _ (S : Source) (o : List ℕ) (list : GateList) (long k : ℕ) (h : Makes S o list long k) where
   node : Sound S.table S.word k
   node = sound-of S h.stands.clear k h.stands.is
 
@@ -192,7 +192,7 @@ module _ (S : Source) (o : List ℕ) (t : GateList) (long k : ℕ) (h : Makes S 
     right-same : wide_of S (right_of (node_of S k)) ≡ wide_of S (node_of S k).a
     right-same = word_wide S (right_of (node_of S k)) (omega (arith, t.right-wide, t.of.word)) ∙ t.right-wide ∙ sym left-wide
 
-    all-asks : Asks t long (node_of S k) (place_of S (node_of S k).a) (off_of S (right_of (node_of S k))) (place_of S k)
+    all-asks : Asks list long (node_of S k) (place_of S (node_of S k).a) (off_of S (right_of (node_of S k))) (place_of S k)
     all-asks =
         let c : gates_of S k ≡ ceiling 0 0 (node_of S k) (wide_of S (node_of S k).a) = gates-of S k h.stands.is.low ∙ t.of.cost ∙ ap (λ (x : ℕ). ceiling 0 0 (node_of S k) x) (sym left-wide) in
         record {
@@ -254,7 +254,7 @@ module _ (S : Source) (o : List ℕ) (t : GateList) (long k : ℕ) (h : Makes S 
     pub right-in : r < length o
     right-in = rw (e, same) (offset S o long k h.stands (right_of (node_of S k)) (omega (arith, pair.right-less))).0
 
-    pub plain-asks : Asks t long d left (get_or o r 0) p
+    pub plain-asks : Asks list long d left (get_or o r 0) p
     plain-asks = rw (q, left_at, right-at, same) (all-asks pair)
 
     pub plain_turn : (s : Net) (m : List ℕ) (s' : Net) (m' : List ℕ) → as_is s' m' ≡ plain_at d left.wide left.off (get_or o r 0) p.off (as_is s m) → Turned (each_word S k (word_own S k)) s m s' m'

@@ -17,6 +17,7 @@ use words::each;
 use words::each::Bitwise;
 
 // Word i of the words from `a` on or of those from `b` on, by the bit at place `cond`, to its place.
+#[tactic(auto, using(crate::proofs::Paths::steps), unfolding(crate::specs::Place::placed, crate::specs::Place::choices, words::specs::Num::filled))]
 fn choose_word(
     list: &mut GateList,
     cond: usize,
@@ -47,6 +48,7 @@ fn choose_word(
 }
 
 // All words.
+#[tactic(auto, using(crate::proofs::Paths::steps))]
 pub fn choose_words(
     list: &mut GateList,
     cond: usize,

@@ -15,6 +15,7 @@ use netlist::record::Gate;
 use words::each;
 
 // One word, whose bits have the numbers from `from` on.
+#[tactic(auto, using(crate::proofs::Paths::steps), unfolding(crate::specs::Own::input_step))]
 fn input_bits(list: &mut GateList, node: usize, from: usize, w: usize, out: &mut [u32])
     requires { Fits list.old w × (w ≤ length out.old) × (node < 4294967296) × (from + w < 4294967296) }
     ensures same { SameList list.old list.new }
@@ -26,6 +27,7 @@ fn input_bits(list: &mut GateList, node: usize, from: usize, w: usize, out: &mut
 }
 
 // Word i of the node, to its place in the map.
+#[tactic(auto, using(crate::proofs::Paths::steps), unfolding(crate::specs::Place::placed, crate::specs::Place::inputs, words::specs::Num::filled))]
 fn input_word(list: &mut GateList, node: usize, to: usize, w: usize, i: usize, map: &mut [u32])
     requires { Fits list.old w × (w ≤ 64) × (node < 4294967296) × (i * w + w < 4294967296) × (to + (i * w + w) ≤ length map.old) }
     ensures same { SameList list.old list.new }
@@ -38,6 +40,7 @@ fn input_word(list: &mut GateList, node: usize, to: usize, w: usize, i: usize, m
 }
 
 // All words of the node.
+#[tactic(auto, using(crate::proofs::Paths::steps))]
 pub fn input_words(list: &mut GateList, node: usize, to: Place, map: &mut [u32])
     requires { Fits list.old (to.words * to.wide) × (to.wide ≤ 64) × (node < 4294967296) × (to.words * to.wide < 4294967296) × (to.off + to.words * to.wide ≤ length map.old) }
     ensures same { SameList list.old list.new }

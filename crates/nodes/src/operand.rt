@@ -9,6 +9,7 @@ use table::Node;
 use table::kind::ITE;
 
 // The bit of an ite's condition; 0 for another kind.
+#[tactic(auto, unfolding(loops::specs::Loop::pick))]
 pub fn condition(offs: &[usize], map: &[u32], node: Node) -> u32
     requires { node.kind ≡ kinds.ITE → (node.a < length offs.now) × (get_or offs.now node.a 0 < length map.now) }
     ensures { result ≡ pick (eqb node.kind kinds.ITE) (get_or map.now (get_or offs.now node.a 0) 0) 0 }
@@ -21,6 +22,7 @@ pub fn condition(offs: &[usize], map: &[u32], node: Node) -> u32
 }
 
 // What is visited after the first operand.
+#[tactic(auto, unfolding(loops::specs::Loop::pick))]
 pub fn second(node: Node, cond: u32) -> usize
     ensures { result ≡ pick (eqb node.kind kinds.ITE && eqb cond 0) node.c node.b }
 {
@@ -31,6 +33,7 @@ pub fn second(node: Node, cond: u32) -> usize
 }
 
 // What is visited after that.
+#[tactic(auto, unfolding(loops::specs::Loop::pick))]
 pub fn third(node: Node, cond: u32) -> usize
     ensures { result ≡ pick (eqb node.kind kinds.ITE && is_known cond) 0 node.c }
 {

@@ -54,6 +54,7 @@ fn plain_word(
 }
 
 // A node whose operands' bits stand in the map from `a` and from `b` on; its own go to the places from `to` on.
+#[tactic(auto, using(crate::proofs::Paths::steps), unfolding(crate::specs::Place::plain_at, words::specs::Num::filled))]
 pub fn plain_node(
     list: &mut GateList,
     node: Node,
@@ -75,6 +76,7 @@ pub fn plain_node(
 }
 
 // A const: the digits of its number.
+#[tactic(auto, unfolding(words::specs::Num::filled))]
 pub fn const_node(number: u64, w: usize, to: usize, map: &mut [u32])
     requires { (w ≤ 64) × (to + w ≤ length map.old) }
     ensures { map.new ≡ put_bits to (put_digits number w blank) w map.old }
@@ -85,6 +87,7 @@ pub fn const_node(number: u64, w: usize, to: usize, map: &mut [u32])
 }
 
 // The second operand; a not has but one, which then stands for both.
+#[tactic(auto, unfolding(loops::specs::Loop::pick))]
 fn right_of(node: Node) -> u64
     ensures { result ≡ right_of node }
 {

@@ -11,6 +11,7 @@ use crate::place::{Here, Place};
 use words::each;
 
 // Word i. It goes through a scratch word, in which copies of one bit stand above it.
+#[tactic(auto, using(crate::proofs::Paths::steps), unfolding(crate::specs::Place::share_at, words::specs::Num::filled))]
 fn share_word(above: u32, from: usize, v: usize, to: usize, w: usize, i: usize, map: &mut [u32])
     requires { (v ≤ 64) × (w ≤ 64) × (from + (i * v + v) ≤ length map.old) × (to + (i * w + w) ≤ length map.old) }
     ensures { map.new ≡ share_at above from v to w i map.old }
@@ -22,6 +23,7 @@ fn share_word(above: u32, from: usize, v: usize, to: usize, w: usize, i: usize, 
 }
 
 // All words: those from `from` on are v wide.
+#[tactic(auto, using(crate::proofs::Paths::steps))]
 pub fn share_words(above: u32, from: usize, v: usize, to: Place, map: &mut [u32])
     requires { (v ≤ 64) × (to.wide ≤ 64) × (from + to.words * v ≤ length map.old) × (to.off + to.words * to.wide ≤ length map.old) }
     ensures { map.new ≡ iter to.words (share_at above from v to.off to.wide) map.old }

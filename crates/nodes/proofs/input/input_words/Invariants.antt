@@ -1,0 +1,12 @@
+use mathlib.Core.Path.{◌≡◌}
+use Rattle.loops.specs.Loop.{iter}
+use Rattle.gates.specs.Made.{SameList}
+use Rattle.words.specs.Each.{word_of}
+use Rattle.nodes.specs.Place.{placed, inputs}
+use Rattle.nodes.proofs.input.input_words.Given as goal
+
+abbrev pub invariant-loop-i : goal.invariant-loop-i
+invariant-loop-i l = record {
+  same : SameList l.initial.list l.list;
+  made : word_of l.list l.map ≡ iter l.i (placed l.to.off l.to.wide (inputs l.node l.to.wide)) (word_of l.initial.list l.initial.map);
+}
