@@ -1,5 +1,5 @@
 -- What a caller of the lowering knows by its answer.
-use Rattle.std.specs.Prelude.{Ok}
+use Rattle.std.specs.Prelude.{Ok, Err}
 use mathlib.Core.Path.{◌≡◌, refl, sym, ◌∙◌, subst}
 use mathlib.Core.List.{List}
 use mathlib.Core.Bool.{Bool, true, false}
@@ -19,11 +19,10 @@ use Rattle.visits.proofs.Later.{Later}
 use Rattle.visits.proofs.Walk.{Fit, fit-later}
 use Rattle.visits.proofs.Roots.{start-fit, rooted}
 use Rattle.visits.proofs.Small.{net-invariant, start-net}
-use Rattle.lowering.specs.declared.lower.Answer.{Answer}
-use Rattle.lowering.specs.declared.lower.Answer.TheVariants.{Done, NothingAsked}
+use Rattle.lowering.specs.declared.lower.Refusal.TheVariants.{NothingAsked}
 use Rattle.nodes.specs.Source.{Source}
 use Rattle.nodes.specs.Recipe.{recipe}
-use Rattle.lowering.specs.Lower.{Run, run, start, lowered, lower_asked, lower_all, Accepted}
+use Rattle.lowering.specs.Lower.{Answer, done, Run, run, start, lowered, lower_asked, lower_all, Accepted}
 use Rattle.nodes.proofs.ShapeLaws.{shape}
 use Rattle.lowering.proofs.StartLaws.{starts}
 use Rattle.lowering.proofs.VisitFacts.{own-steps}
@@ -51,7 +50,7 @@ module _ (S : Source) (g c m : List ℕ) where
     fit : Fit (recipe S) 0 0 (lowered S g c)
     fit = fit-later (start-fit begun) later
 
-  pub made : (n k : ℕ) (a : Answer) (g' c' m' : List ℕ) → run a g' c' m' ≡ lower_all S g c m → a ≡ Done n k → Made S g c m n k
+  pub made : (n k : ℕ) (a : Answer) (g' c' m' : List ℕ) → run a g' c' m' ≡ lower_all S g c m → a ≡ Ok (done n k) → Made S g c m n k
   made n k a g' c' m' e h =
       let f : Finished S g c m n k (run a g' c' m') = subst (λ (r : Run). Ends S g c m n k r) (sym e) (finished S g c m n k) h in
       let l = later f.accepted in
@@ -69,6 +68,6 @@ module _ (S : Source) (g c m : List ℕ) (none : (i : ℕ) → i < nodes S.table
   asks_nothing true e = let q = asked S.table e in absurd (none q.0 q.1 q.2)
   asks_nothing false e = e
 
-  pub turned_down : table_fault S.table S.addrs S.word ≡ Ok tt → lower_all S g c m ≡ run NothingAsked g c m
+  pub turned_down : table_fault S.table S.addrs S.word ≡ Ok tt → lower_all S g c m ≡ run (Err NothingAsked) g c m
   unfolding lower_all lower_asked
   turned_down clear = rw clear (pick-false _ _ _ (asks_nothing (asks S.table) refl))

@@ -2,7 +2,6 @@ pub mod StartLaws
 pub mod SmallLaws
 pub mod RightLower
 pub mod VisitFacts
-pub mod FillLaws
 pub mod Caps
 pub mod RootFacts
 pub mod LowerFacts

@@ -19,12 +19,12 @@ use Rattle.table.specs.Ceiling.{sums_of}
 use Rattle.table.proofs.Whole.{within, fine}
 use Rattle.table.proofs.size.Laws as size
 use Rattle.netlist.specs.Record.{records}
-use Rattle.division.specs.declared.constraint.Counts.{Counts}
+use Rattle.lowering.specs.declared.lower.Done.{Done}
 use Rattle.visits.specs.Flow.{Low}
-use Rattle.lowering.specs.declared.lower.Answer.TheVariants.{Done, Table, NothingAsked, GateRoom, BitRoom, ConstraintRoom}
+use Rattle.lowering.specs.declared.lower.Refusal.TheVariants.{Table, NothingAsked, GateRoom, BitRoom, ConstraintRoom}
 use Rattle.nodes.specs.Source.{Source, listed, total_of}
-use Rattle.lowering.specs.Lower.{Run, run, sums, con_records, lowered, ended, lower_clear, lower_asked, lower_all, marked, Accepted}
-use Rattle.lowering.specs.Visit.{Begins, low_of}
+use Rattle.lowering.specs.Lower.{Run, run, made_low, sums, con_records, lowered, ended, lower_clear, lower_asked, lower_all, marked, Accepted}
+use Rattle.lowering.specs.Visit.{Begins}
 
 pub map-sum : (S : Source) → (sums S).map ≡ total_of S
 unfolding sums_of
@@ -54,16 +54,16 @@ module _ (S : Source) (g c m : List ℕ) (h : Accepted S g c m) (o z : List ℕ)
       }
 
 -- where the lowering ended
-module _ (S : Source) (g c m z g1 c1 m1 z1 : List ℕ) (p : Counts) (e : low_of g1 c1 m1 z1 p ≡ lowered S g c) where
+module _ (S : Source) (g c m z g1 c1 m1 z1 : List ℕ) (d : Done) (e : made_low d g1 c1 m1 z1 ≡ lowered S g c) where
   pub ended-done : (total : ℕ) → total ≡ total_of S
-      → (run (Done p.at.n p.m) g1 c1 (m1 ++ drop total m) ≡ ended S m (lowered S g c))
-      × (z1 ++ drop (nodes S.table + 1) z ≡ marked S g c z (Done p.at.n p.m))
+      → (run (Ok d) g1 c1 (m1 ++ drop total m) ≡ ended S m (lowered S g c))
+      × (z1 ++ drop (nodes S.table + 1) z ≡ marked S g c z (Ok d))
   unfolding ended marked
   ended-done total t = (rw t (ap (ended S m) e), ap (λ (x : Low). x.seen ++ drop (nodes S.table + 1) z) e)
 
 -- room first: 7, 8, 9
 module _ (S : Source) (g c m z : List ℕ) (s : Sums) (e : s ≡ sums S) where
-  pub no-gate-room : (n : ℕ) → n ≡ records g → n < s.gates → (run GateRoom g c m ≡ lower_clear S g c m) × (z ≡ marked S g c z GateRoom)
+  pub no-gate-room : (n : ℕ) → n ≡ records g → n < s.gates → (run (Err GateRoom) g c m ≡ lower_clear S g c m) × (z ≡ marked S g c z (Err GateRoom))
   unfolding lower_clear marked
   no-gate-room n q l = (sym (pick_true _ _ _ (lt-ltb (records g) (sums S).gates (rw (e, q) at l))), refl)
 
@@ -71,7 +71,7 @@ module _ (S : Source) (g c m z : List ℕ) (s : Sums) (e : s ≡ sums S) where
     enough : (sums S).gates ≤ records g
     enough = rw (e, q) at le
 
-    pub no-bit-room : length m < s.map → (run BitRoom g c m ≡ lower_clear S g c m) × (z ≡ marked S g c z BitRoom)
+    pub no-bit-room : length m < s.map → (run (Err BitRoom) g c m ≡ lower_clear S g c m) × (z ≡ marked S g c z (Err BitRoom))
     unfolding lower_clear marked
     no-bit-room l = (sym (pick-false _ _ _ (le-ltb (records g) (sums S).gates enough) ∙ pick_true _ _ _ (lt-ltb (length m) (sums S).map (rw e at l))), refl)
 
@@ -79,7 +79,7 @@ module _ (S : Source) (g c m z : List ℕ) (s : Sums) (e : s ≡ sums S) where
       places : (sums S).map ≤ length m
       places = rw e at le2
 
-      pub no-constraint-room : con_records c < s.constraints → (run ConstraintRoom g c m ≡ lower_clear S g c m) × (z ≡ marked S g c z ConstraintRoom)
+      pub no-constraint-room : con_records c < s.constraints → (run (Err ConstraintRoom) g c m ≡ lower_clear S g c m) × (z ≡ marked S g c z (Err ConstraintRoom))
       unfolding lower_clear marked
       no-constraint-room l = (
         sym
@@ -105,7 +105,7 @@ module _ (S : Source) (g c m z : List ℕ) (s : Sums) (e : s ≡ sums S) where
 
 -- the table first: 1 to 6, then 14
 module _ (S : Source) (g c m : List ℕ) where
-  pub faulty : (f : Fault) → Err f ≡ table_fault S.table S.addrs S.word → run (Table f) g c m ≡ lower_all S g c m
+  pub faulty : (f : Fault) → Err f ≡ table_fault S.table S.addrs S.word → run (Err (Table f)) g c m ≡ lower_all S g c m
   unfolding lower_all
   faulty f e = rw (← e)
 
@@ -114,7 +114,7 @@ module _ (S : Source) (g c m : List ℕ) where
     unfolding lower_all
     past = rw (← e)
 
-    pub unasked : s ≡ false → run NothingAsked g c m ≡ lower_all S g c m
+    pub unasked : s ≡ false → run (Err NothingAsked) g c m ≡ lower_all S g c m
     unfolding lower_asked
     unasked n = sym (past ∙ pick-false _ _ _ (sym q ∙ n))
 
@@ -125,10 +125,10 @@ module _ (S : Source) (g c m : List ℕ) where
     unfolding lower_asked
     clear-all y r x = x ∙ sym (past ∙ pick_true _ _ _ (sym q ∙ y))
 
-pub faulty-marks : (S : Source) (g c z : List ℕ) (f : Fault) → z ≡ marked S g c z (Table f)
+pub faulty-marks : (S : Source) (g c z : List ℕ) (f : Fault) → z ≡ marked S g c z (Err (Table f))
 unfolding marked
 faulty-marks S g c z f = refl
 
-pub unasked-marks : (S : Source) (g c z : List ℕ) → z ≡ marked S g c z NothingAsked
+pub unasked-marks : (S : Source) (g c z : List ℕ) → z ≡ marked S g c z (Err NothingAsked)
 unfolding marked
 unasked-marks S g c z = refl

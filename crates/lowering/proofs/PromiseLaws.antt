@@ -17,12 +17,12 @@ use Rattle.visits.specs.Flow.{Core, Low, root_step, lower_to}
 use Rattle.visits.specs.Claims.{Is, Lowered, Small}
 use Rattle.visits.proofs.Later.{Sound, sound-later, visit-later}
 use Rattle.visits.proofs.Roots.{start-sound}
-use Rattle.lowering.specs.declared.lower.Answer.{Answer}
-use Rattle.lowering.specs.declared.lower.Answer.TheVariants.{Done, Table}
+use Rattle.lowering.specs.declared.lower.Done.{Done}
+use Rattle.lowering.specs.declared.lower.Refusal.TheVariants.{Table}
 use Rattle.nodes.specs.Source.{Source, total_of, gates_of}
 use Rattle.nodes.specs.Own.{own_step}
 use Rattle.nodes.specs.Recipe.{recipe}
-use Rattle.lowering.specs.Lower.{Run, run, start, lowered, sums, con_records, ended, lower_clear, lower_asked, lower_all, Accepted, number, counts_of}
+use Rattle.lowering.specs.Lower.{Answer, done, Run, run, start, lowered, sums, con_records, ended, lower_clear, lower_asked, lower_all, Accepted, number}
 use Rattle.nodes.specs.Meaning.{meaning}
 use Rattle.lowering.specs.Promise.{said, Right, Promise}
 use Rattle.nodes.proofs.ShapeLaws.{shape}
@@ -43,19 +43,19 @@ pub record Finished (S : Source) (g c m : List ℕ) (n k : ℕ) (r : Run) : Type
 
 module _ (S : Source) (g c m : List ℕ) (n k : ℕ) where
   abbrev pub Ends : Run → Type 0
-  Ends r = r.answer ≡ Done n k → Finished S g c m n k r
+  Ends r = r.answer ≡ Ok (done n k) → Finished S g c m n k r
 
   finished-end : Accepted S g c m → Ends (ended S m (lowered S g c))
   unfolding ended
   finished-end a e =
-      record { accepted = a; count = ap (λ (x : Answer). (counts_of x).gates) e; asks = ap (λ (x : Answer). (counts_of x).constraints) e; gates = refl; cons = refl; map = refl }
+      record { accepted = a; count = cc; asks = cc; gates = refl; cons = refl; map = refl }
 
   finished-clear : table_fault S.table S.addrs S.word ≡ Ok tt → asks S.table ≡ true → Ends (lower_clear S g c m)
   unfolding lower_clear
   finished-clear clear asked =
-      by-pick Ends (ltb (records g) (sums S).gates) _ _ (λ _ e. clash (sym (ap (λ (x : Answer). (counts_of x).done) e)))
-      (λ a. by-pick Ends (ltb (length m) (sums S).map) _ _ (λ _ e. clash (sym (ap (λ (x : Answer). (counts_of x).done) e)))
-      (λ b. by-pick Ends (ltb (con_records c) (sums S).constraints) _ _ (λ _ e. clash (sym (ap (λ (x : Answer). (counts_of x).done) e)))
+      by-pick Ends (ltb (records g) (sums S).gates) _ _ (λ _ e. cc)
+      (λ a. by-pick Ends (ltb (length m) (sums S).map) _ _ (λ _ e. cc)
+      (λ b. by-pick Ends (ltb (con_records c) (sums S).constraints) _ _ (λ _ e. cc)
       (λ d. finished-end (record {
         clear = clear;
         asked = asked;
@@ -66,11 +66,11 @@ module _ (S : Source) (g c m : List ℕ) (n k : ℕ) where
 
   finished-asked : table_fault S.table S.addrs S.word ≡ Ok tt → Ends (lower_asked S g c m)
   unfolding lower_asked
-  finished-asked clear = by-pick Ends (asks S.table) _ _ (finished-clear clear) (λ _ e. clash (sym (ap (λ (x : Answer). (counts_of x).done) e)))
+  finished-asked clear = by-pick Ends (asks S.table) _ _ (finished-clear clear) (λ _ e. cc)
 
-  finished-checked : (r : Result Unit Fault) → r ≡ table_fault S.table S.addrs S.word → Ends (by_fault r (lower_asked S g c m) (λ f. run (Table f) g c m))
+  finished-checked : (r : Result Unit Fault) → r ≡ table_fault S.table S.addrs S.word → Ends (by_fault r (lower_asked S g c m) (λ f. run (Err (Table f)) g c m))
   finished-checked (Ok u) h e = finished-asked (sym h) e
-  finished-checked (Err f) h e = clash (sym (ap (λ (x : Answer). (counts_of x).done) e))
+  finished-checked (Err f) h e = cc
 
   pub finished : Ends (lower_all S g c m)
   unfolding lower_all
@@ -126,5 +126,5 @@ promise S g c m a g' c' m' e =
           };
     }
   where
-    held : (n k : ℕ) → a ≡ Done n k → Finished S g c m n k (run a g' c' m')
+    held : (n k : ℕ) → a ≡ Ok (done n k) → Finished S g c m n k (run a g' c' m')
     held n k h = subst (λ (r : Run). Ends S g c m n k r) (sym e) (finished S g c m n k) h

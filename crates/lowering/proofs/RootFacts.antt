@@ -14,8 +14,10 @@ use Rattle.netlist.specs.Record.{gate, put, Room}
 use Rattle.visits.specs.Flow.{Low, root_step, lower_to}
 use Rattle.visits.specs.Claims.{Start, left}
 use Rattle.visits.proofs.Roots.{start_left, start-fit}
-use Rattle.division.specs.declared.constraint.Counts.{Counts}
-use Rattle.nodes.specs.Source.{Source, node_of, gates_of}
+use Rattle.division.specs.declared.lists.Lists.{Lists}
+use Rattle.division.specs.Constraint.{cons_of}
+use Rattle.division.specs.Check.{Book, book_of}
+use Rattle.nodes.specs.Source.{Source, node_of, gates_of, total_of}
 use Rattle.nodes.specs.Recipe.{recipe}
 use Rattle.lowering.specs.Lower.{start, UNREACHED}
 use Rattle.lowering.specs.Visit.{Goes, Begins, Visits, low_of}
@@ -46,20 +48,26 @@ pub all-roots : (S : Source) (s t : Low) (i : ℕ) → i ≤ nodes S.table + 1 �
 unfolding lower_to
 all-roots S s t i le ge e = let q : i ≡ nodes S.table + 1 = omega arith in rw q at e
 
--- where it begins
-abbrev pub begun : Counts
-begun = record { at = record { n = 2 }; m = 0 }
-
+-- where it begins: the two lists with the two constants, the map and the marks filled
 module _ (S : Source) (o g c m z : List ℕ) (h : Begins S o g c m z) where
-  pub room-two : Room g 2
-  room-two = omega (arith, h.gates, gates-sum S)
+  pub room-two : Room g 2 × (2 < 4294967296)
+  room-two = (omega (arith, h.gates, gates-sum S), omega arith)
 
-  module _ (g1 g2 m1 z1 : List ℕ) (e1 : g1 ≡ put g 0 (gate 0 0 0 0)) (e2 : g2 ≡ put g1 1 (gate 1 0 0 0)) (em : m1 ≡ replicate (length m) UNREACHED) (ez : z1 ≡ replicate (length z) 0) where
-    pub begin-is : low_of g2 c m1 z1 begun ≡ start S g c
+  module _ (l : Lists) (m1 z1 : List ℕ)
+    (el : book_of l ≡ record { net = record { gates = put (put g 0 (gate 0 0 0 0)) 1 (gate 1 0 0 0); n = 2 }; cons = cons_of c 0 })
+    (em : m1 ≡ replicate (length m) UNREACHED) (ez : z1 ≡ replicate (length z) 0) where
+    pub begin-is : low_of l m1 z1 ≡ start S g c
     unfolding start
-    begin-is = rw (e2, e1, em, ez, h.mapped, h.marked)
+    begin-is = rw (em, ez, h.mapped, h.marked) (ap {B = Low} (λ (b : Book). from_book b) el)
+      where
+        from_book : Book → Low
+        from_book b =
+            record {
+              core = record { net = b.net; cons = b.cons.list; nc = b.cons.m; map = replicate (total_of S) UNREACHED };
+              seen = replicate (nodes S.table + 1) 0;
+            }
 
-    pub begin-goes : Goes S o 0 0 (low_of g2 c m1 z1 begun)
+    pub begin-goes : Goes S o 0 0 (low_of l m1 z1)
     begin-goes =
         let s : Start (recipe S) (start S g c) = starts S g c h.gates h.constraints in
         let f = start-fit s in
@@ -68,5 +76,5 @@ module _ (S : Source) (o g c m z : List ℕ) (h : Begins S o g c m z) where
         subst (λ (x : Low). Goes S o 0 0 x) (sym begin-is)
         (record { clear = h.clear; offsets = h.offsets; mapped = s.mapped; marked = s.nodes; room = f.room; cap = cap; asks = f.room_asks })
 
-    pub from_start : (t : Low) → t ≡ lower_to (recipe S) (low_of g2 c m1 z1 begun) → t ≡ lower_to (recipe S) (start S g c)
+    pub from_start : (t : Low) → t ≡ lower_to (recipe S) (low_of l m1 z1) → t ≡ lower_to (recipe S) (start S g c)
     from_start t e = e ∙ ap (lower_to (recipe S)) begin-is

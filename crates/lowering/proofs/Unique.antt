@@ -2,9 +2,8 @@
 use mathlib.Core.Path.{◌≡◌, ap, sym, ◌∙◌}
 use mathlib.Core.List.{List}
 use Prim.Native.Nat.{ℕ}
-use Rattle.lowering.specs.declared.lower.Answer.{Answer}
 use Rattle.nodes.specs.Source.{Source}
-use Rattle.lowering.specs.Lower.{Run, run, marked, number, node}
+use Rattle.lowering.specs.Lower.{Answer, Run, run, marked, number, node}
 use Rattle.lowering.specs.Promise.{Promise}
 
 module _ (S : Source) (g c m : List ℕ) (r s : Answer) (g1 c1 m1 g2 c2 m2 : List ℕ) (p : Promise S g c m r g1 c1 m1) (q : Promise S g c m s g2 c2 m2) where

@@ -5,7 +5,7 @@ use Rattle.table.specs.Node.{nodes}
 use Rattle.table.specs.Sheet.{table_fault}
 use Rattle.table.specs.Size.{Offsets}
 use Rattle.netlist.specs.Record.{Room, records}
-use Rattle.division.specs.declared.constraint.Counts.{Counts}
+use Rattle.division.specs.declared.lists.Lists.{Lists}
 use Rattle.division.specs.Constraint.{con_used}
 use Rattle.visits.specs.Flow.{Low, enter, visit_to}
 use Rattle.visits.specs.Claims.{left}
@@ -14,9 +14,9 @@ use Rattle.nodes.specs.Recipe.{recipe}
 use Rattle.nodes.specs.Asked.{core_of}
 use Rattle.lowering.specs.Lower.{sums, con_records}
 
--- the state that the buffers and the marks say, with the places of the next gate and the next constraint
-abbrev pub low_of : List ℕ → List ℕ → List ℕ → List ℕ → Counts → Low
-low_of g c m z p = record { core = core_of g c m p; seen = z }
+-- the state that the two lists, the map and the marks say
+abbrev pub low_of : Lists → List ℕ → List ℕ → Low
+low_of l m z = record { core = core_of l m; seen = z }
 
 -- a table without fault, over a state with room for e gates, for f constraints, and for the ceilings of all nodes not seen
 pub record Goes (S : Source) (o : List ℕ) (e f : ℕ) (s : Low) : Type 0 where

@@ -1,17 +1,20 @@
 // The lowering from the bad nodes, in table order.
-ghost use Rattle.std.specs.Prelude.{◌≡◌, ◌+◌, ◌≤◌};
+ghost use Rattle.std.specs.Prelude.{◌≡◌, ◌≤◌};
 ghost use Rattle.table.specs.Node.{nodes};
 ghost use Rattle.visits.specs.Flow.{root_step, lower_to};
-ghost use Rattle.nodes.specs.Source.{source};
+ghost use Rattle.division.specs.Rows.{SameLists};
+ghost use Rattle.nodes.specs.Laid.{source_of};
 ghost use Rattle.nodes.specs.Recipe.{recipe};
-ghost use Rattle.lowering.specs.Lower.{start};
+ghost use Rattle.lowering.specs.Lower.{start, made_low};
 ghost use Rattle.lowering.specs.Visit.{Goes, Begins, low_of};
 
-use crate::fill::{fill, unmark};
+use crate::lower::Done;
 use crate::visit::visit;
-use division::constraint::Counts;
-use gates::made::At;
-use netlist::record::{Gate, put_gate};
+use division::constraint::ConstraintList;
+use division::lists::Lists;
+use gates::list::GateList;
+use netlist::record::Gate;
+use nodes::place::Laid;
 use table::field::node_at;
 use table::kind::BAD;
 
@@ -19,90 +22,53 @@ use table::kind::BAD;
 const UNREACHED: u32 = 4294967295;
 
 // Node k, if it is bad.
-fn root_step(
-    table: &[u64],
-    addrs: &[u64],
-    word: u64,
-    offs: &[usize],
-    gates: &mut [u32],
-    cons: &mut [u32],
-    map: &mut [u32],
-    seen: &mut [u8],
-    k: usize,
-    p: Counts,
-) -> Counts
-    requires { Goes (source table.now addrs.now word) offs.now 0 0 (low_of gates.old cons.old map.old seen.old p) × (k ≤ nodes table.now) }
-    ensures { low_of gates.new cons.new map.new seen.new result ≡ root_step (recipe (source table.now addrs.now word)) k (low_of gates.old cons.old map.old seen.old p) }
+fn root_step(laid: &Laid, lists: &mut Lists, map: &mut [u32], seen: &mut [u8], k: usize)
+    requires { Goes (source_of laid.now) laid.now.offs.now 0 0 (low_of lists.old map.old seen.old) × (k ≤ nodes laid.now.table.now) }
+    ensures same { SameLists lists.old lists.new }
+    ensures made { low_of lists.new map.new seen.new ≡ root_step (recipe (source_of laid.now)) k (low_of lists.old map.old seen.old) }
 {
-    let node = node_at(table, k);
-    if node.kind != BAD {
-        return p;
+    let node = node_at(laid.table, k);
+    if node.kind == BAD {
+        visit(laid, lists, map, seen, k);
     }
-    visit(table, addrs, word, offs, gates, cons, map, seen, k, p)
 }
 
 // All of them; there is a mark for each node, and one for none.
-fn roots(
-    table: &[u64],
-    addrs: &[u64],
-    word: u64,
-    offs: &[usize],
-    gates: &mut [u32],
-    cons: &mut [u32],
-    map: &mut [u32],
-    seen: &mut [u8],
-    p: Counts,
-) -> Counts
-    requires { Goes (source table.now addrs.now word) offs.now 0 0 (low_of gates.old cons.old map.old seen.old p) }
-    ensures { low_of gates.new cons.new map.new seen.new result ≡ lower_to (recipe (source table.now addrs.now word)) (low_of gates.old cons.old map.old seen.old p) }
+fn roots(laid: &Laid, lists: &mut Lists, map: &mut [u32], seen: &mut [u8])
+    requires { Goes (source_of laid.now) laid.now.offs.now 0 0 (low_of lists.old map.old seen.old) }
+    ensures same { SameLists lists.old lists.new }
+    ensures made { low_of lists.new map.new seen.new ≡ lower_to (recipe (source_of laid.now)) (low_of lists.old map.old seen.old) }
 {
-    let size = seen.len();
-    let mut next = p;
-    let mut k = 0;
-    while k < size {
-        next = root_step(table, addrs, word, offs, gates, cons, map, seen, k, next);
-        k += 1;
+    for k in 0..seen.len() {
+        root_step(laid, lists, map, seen, k);
     }
-    next
 }
 
 // From the two constants on: no constraint, no bits, nothing seen.
 pub fn lower_roots(
-    table: &[u64],
-    addrs: &[u64],
-    word: u64,
-    offs: &[usize],
+    laid: &Laid,
     gates: &mut [u32],
     cons: &mut [u32],
     map: &mut [u32],
     seen: &mut [u8],
-) -> Counts
-    requires { Begins (source table.now addrs.now word) offs.now gates.old cons.old map.old seen.old }
-    ensures { low_of gates.new cons.new map.new seen.new result ≡ lower_to (recipe (source table.now addrs.now word)) (start (source table.now addrs.now word) gates.old cons.old) }
+) -> Done
+    requires { Begins (source_of laid.now) laid.now.offs.now gates.old cons.old map.old seen.old }
+    ensures { made_low result gates.new cons.new map.new seen.new ≡ lower_to (recipe (source_of laid.now)) (start (source_of laid.now) gates.old cons.old) }
 {
-    put_gate(
-        gates,
-        0,
-        Gate {
-            kind: Gate::CONST_FALSE,
-            x: 0,
-            y: 0,
-            z: 0,
+    let mut lists = Lists {
+        gates: GateList {
+            records: gates,
+            n: 0,
         },
-    );
-    put_gate(
-        gates,
-        1,
-        Gate {
-            kind: Gate::CONST_TRUE,
-            x: 0,
-            y: 0,
-            z: 0,
-        },
-    );
-    fill(map, UNREACHED);
-    unmark(seen);
-    let at = At { n: 2 };
-    let p = Counts { at, m: 0 };
-    roots(table, addrs, word, offs, gates, cons, map, seen, p)
+        cons: ConstraintList { pairs: cons, m: 0 },
+    };
+    lists.gates.append(Gate::CONST_FALSE, 0, 0, 0);
+    lists.gates.append(Gate::CONST_TRUE, 0, 0, 0);
+    map.fill(UNREACHED);
+    seen.fill(0);
+    roots(laid, &mut lists, map, seen);
+    Done {
+        gates: lists.gates.n,
+        constraints: lists.cons.m,
+    }
 }

@@ -1,18 +1,23 @@
-use Rattle.lowering.proofs.RootFacts.{goes-root, all-roots}
-use Rattle.nodes.specs.Source.{source}
-use Rattle.loops.proofs.Loop.{loop-none, loop-more}
 use borrow.Author.Rules.{rules}
 use native.Mathlib.Omega.{arith}
+use Rattle.loops.proofs.Loop.{loop-none, loop-more}
+use Rattle.nodes.specs.Laid.{source_of}
+use Rattle.lowering.proofs.RootFacts.{goes-root, all-roots}
 use Rattle.lowering.proofs.root.roots.Goals as goal
 
 pub loop-k-init : goal.loop-k-init
-loop-k-init c = (omega arith, c.requires.marked, search (rules, loop-none), c.requires, search rules, search rules, search rules, search rules)
+loop-k-init c = record { same = search rules; marks = c.requires.marked; goes = c.requires; made = search (rules, loop-none) }
 
-pub root_step-next-requires : goal.root_step-next-requires
-root_step-next-requires c = (c.loop-k.invariant.3, omega (arith, c.loop-k.invariant.1))
+pub root_step-requires : goal.root_step-requires
+root_step-requires c = (c.loop-k.invariant.goes, omega (arith, c.loop-k.invariant.marks))
 
 pub loop-k-preserved : goal.loop-k-preserved
-loop-k-preserved c = (omega arith, c.loop-k.invariant.1, search (rules, loop-more), goes-root c.loop-k.k _ c.loop-k.invariant.3 (omega (arith, c.loop-k.invariant.1)) c.root_step-next.ensures, search rules, search rules, search rules, search rules)
+loop-k-preserved c = record {
+  same = search rules;
+  marks = c.loop-k.invariant.marks;
+  goes = goes-root c.loop-k.k _ c.loop-k.invariant.goes (omega (arith, c.loop-k.invariant.marks)) c.root_step.ensures.made;
+  made = search (rules, loop-more);
+}
 
-pub returns : goal.returns
-returns c = all-roots (source c.args.table.now c.args.addrs.now c.args.word) _ _ _ c.loop-k.invariant.0 (omega (arith, c.loop-k.invariant.1)) c.loop-k.invariant.2
+pub returns-clause-made : goal.returns-clause-made
+returns-clause-made c = ?
