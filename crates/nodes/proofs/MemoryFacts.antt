@@ -1,15 +1,15 @@
 -- What a table without fault gives to the code of reads and writes, and what that code's calls come to.
 use mathlib.Core.Path.{◌≡◌, refl, ap, sym, ◌∙◌}
-use mathlib.Core.List.{List, ◌++◌, append_assoc}
+use mathlib.Core.List.{List}
 use mathlib.Core.Bool.{true}
 use mathlib.Core.Logic.{◌⊎◌, inl, inr}
 use Prim.Native.Nat.{ℕ, ◌+◌, ◌*◌, ◌-◌, ◌≤◌, ◌<◌}
 use native.Mathlib.Omega.{arith}
-use lib.ListN.{length, get_or, set, take, drop, length-drop}
-use lib.Seq.{length-take-le, take_all, drop-drop, get_or-take, ext_get_or, paste, paste-zero, paste-suc}
+use lib.ListN.{length, get_or, take, drop, length-drop}
+use lib.Seq.{length-take-le, take_all, get_or-take, ext_get_or}
+use borrow.Rule.Slice.PartMut.{put_mid}
 use borrow.Author.Tests.{eqb-false}
 use Rattle.loops.specs.Loop.{iter}
-use Rattle.loops.proofs.Loop.{iter-inv}
 use Rattle.table.specs.declared.Node.{Node}
 use Rattle.table.specs.Kind.{READ, WRITE, uses_a, uses_b, uses_c}
 use Rattle.table.specs.Node.{width_of}
@@ -18,10 +18,9 @@ use Rattle.netlist.specs.Net.{Net}
 use Rattle.gates.specs.declared.list.GateList.{GateList}
 use Rattle.gates.specs.Made.{Fits}
 use Rattle.words.specs.Num.{blank}
-use Rattle.words.specs.Each.{Word, word_of, copy_step, put_bits}
-use Rattle.words.proofs.EachLaws.{put-law}
+use Rattle.words.specs.Each.{Word, put_bits}
+use Rattle.words.proofs.EachLaws.{put-law, put-mid}
 use Rattle.words.proofs.NumLaws.{blank-long}
-use Rattle.memory.specs.Read.{read_words}
 use Rattle.memory.specs.Write.{write_words}
 use Rattle.memory.proofs.ReadLaws.{put_low}
 use Rattle.visits.specs.Flow.{Core}
@@ -35,17 +34,6 @@ use Rattle.nodes.proofs.OpKinds.{op-plain}
 use Rattle.nodes.proofs.Places.{word-words, word_wide, memory-words, memory-wide, sound-of}
 use Rattle.nodes.proofs.MemoryLaws.{memory-bits, read-gates, write-gates}
 use Rattle.nodes.proofs.Facts.{place-within, offset, words-turn, share-turn, word_in, part-first}
-
--- the path of a read
-pub read-path : (addrs : List ℕ) (mem adr to w : ℕ) (g g' word map map' : List ℕ) (n n' : At)
-    → word_of t' word ≡ read_words (length addrs) w addrs (take (mem + length addrs * w - mem) (drop mem map)) (take (adr + w - adr) (drop adr map)) (word_of t blank)
-    → map' ≡ put_bits to word w map → word_of t' map' ≡ placed to w (reading addrs mem adr w) 0 (word_of t map)
-unfolding placed reading
-read-path addrs mem adr to w g g' word map map' n n' e h =
-    let y : mem + length addrs * w - mem ≡ length addrs * w = omega arith in
-    let z : adr + w - adr ≡ w = omega arith in
-    let q : to + 0 * w ≡ to = omega arith in
-    rw q (ap {B = Word} (λ l. word_of t' l) h ∙ ap {B = Word} (λ (x : Word). as_is x.net (put_bits to x.out w map)) (rw (y, z) at e))
 
 -- a word of the map, copied to scratch
 pub scratch-long : (w : ℕ) (bits scratch : List ℕ) → w ≤ 64 → scratch ≡ put_bits 0 bits w blank → w ≡ length (take w scratch)
@@ -62,32 +50,21 @@ copied w from map scratch small fits e =
     ext_get_or 0 (take w scratch) bits (sym long ∙ sym (length-take-le w (drop from map) (omega (arith, length-drop from map))))
     (λ i l. get_or-take w scratch i 0 (omega (arith, long)) ∙ ap (λ (x : List ℕ). get_or x i 0) same ∙ put_low bits blank w (omega (arith, blank-long)) i (omega (arith, long)))
 
--- a part that was lent comes back as bits that are put to its places
-put-paste : (to : ℕ) (bits map : List ℕ) (n : ℕ) → to + n ≤ length map → n ≤ length bits → put_bits to bits n map ≡ paste map to bits n
-unfolding copy_step
-put-paste to bits map n fits long =
-    iter-inv (λ i (x : List ℕ). x ≡ paste map to bits i) (copy_step to bits) map n (paste-zero map to bits)
-    (λ i x l e. ap (λ (z : List ℕ). set z (to + i) (get_or bits i 0)) e ∙ paste-suc map to bits i 0 (omega arith) (omega arith))
-
-part-back : (to : ℕ) (bits map : List ℕ) (n : ℕ) → to + n ≤ length map → length bits ≡ n → take to map ++ (bits ++ drop n (drop to map)) ≡ put_bits to bits n map
-part-back to bits map n fits long =
-    sym (put-paste to bits map n fits (omega (arith, long)) ∙ ap (λ (z : List ℕ). take to map ++ z ++ drop (to + n) map) (take_all n bits (omega (arith, long)))
-    ∙ append_assoc (take to map) bits (drop (to + n) map) ∙ ap (λ (z : List ℕ). take to map ++ (bits ++ z)) (sym (drop-drop n to map)))
-
 -- the path of a write
-pub write-path : (addrs : List ℕ) (old adr val to w : ℕ) (g g' map shared part address value : List ℕ) (n n' : At) → w ≤ 64 → adr + w ≤ length map → val + w ≤ length map
-    → to + length addrs * w ≤ length shared → address ≡ put_bits 0 (take (adr + w - adr) (drop adr map)) w blank → value ≡ put_bits 0 (take (val + w - val) (drop val map)) w blank
-    → shared ≡ iter (length addrs) (share_at 0 old w to w) map
-    → word_of t' part ≡ write_words (length addrs) w addrs (take w address) (take w value) (word_of t (take (to + length addrs * w - to) (drop to shared)))
-    → length part ≡ to + length addrs * w - to
-    → word_of t' (take to shared ++ (part ++ drop (to + length addrs * w - to) (drop to shared))) ≡ write_at addrs old adr val to w (word_of t map)
-unfolding write_at
-write-path addrs old adr val to w g g' map shared part address value n n' small fa fv ft ea ev es e long =
-    let z : to + length addrs * w - to ≡ length addrs * w = omega arith in
-    let q : word_of t' part ≡ write_words (length addrs) w addrs (take w (drop adr map)) (take w (drop val map)) (word_of t (take (length addrs * w) (drop to shared))) =
-    rw (z, copied w adr map address small fa ea, copied w val map value small fv ev) at e in
-    rw (z, part-back to part shared (length addrs * w) ft (long ∙ z), ← es)
-    (ap {B = Word} (λ (x : Word). as_is x.net (put_bits to x.out (length addrs * w) shared)) q)
+module _ (addrs : List ℕ) (old adr val to w : ℕ) (map : List ℕ) (small : w ≤ 64) (fa : adr + w ≤ length map) (fv : val + w ≤ length map) where
+  pub write-path : (s s' : Net) (shared part address value : List ℕ) → to + length addrs * w ≤ length shared → address ≡ put_bits 0 (take (adr + w - adr) (drop adr map)) w blank
+      → value ≡ put_bits 0 (take (val + w - val) (drop val map)) w blank → shared ≡ iter (length addrs) (share_at 0 old w to w) map
+      → as_is s' part ≡ write_words (length addrs) w addrs (take w address) (take w value) (as_is s (take (to + length addrs * w - to) (drop to shared)))
+      → length part ≡ to + length addrs * w - to → as_is s' (put_mid to (to + length addrs * w - to) shared part) ≡ write_at addrs old adr val to w (as_is s map)
+  unfolding write_at
+  write-path s s' shared part address value ft ea ev es e long =
+      let n : ℕ = length addrs * w in
+      let z : to + n - to ≡ n = omega arith in
+      let q : as_is s' part ≡ write_words (length addrs) w addrs (take w (drop adr map)) (take w (drop val map)) (as_is s (take n (drop to shared))) =
+      rw (z, copied w adr map address small fa ea, copied w val map value small fv ev) at e in
+      let whole : length part ≡ n = long ∙ z in
+      rw (put-mid to part shared part n (to + n - to) ft (omega (arith, whole)) z (sym (take_all n part (omega (arith, whole)))), ← es)
+      (ap {B = Word} (λ (x : Word). as_is x.net (put_bits to x.out n shared)) q)
 
 -- what the sort rule says of a read and of a write
 record Access (w : ℕ) (d : Node) (va vb vc : ℕ) : Type 0 where

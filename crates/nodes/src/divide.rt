@@ -18,6 +18,7 @@ use table::kind::DIVU;
 use words::each;
 
 // A division of the words from `a` and from `b` on, as wide as its own bits, which go to their place.
+#[tactic(auto, unfolding(crate::specs::Place::divide_at, words::specs::Num::filled))]
 pub fn divide_places(
     lists: &mut Lists,
     quotient: bool,

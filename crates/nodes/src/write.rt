@@ -16,6 +16,7 @@ use words::each;
 
 // The bits of the old memory stand in the map from `old` on, those of the address and of the value from `adr` and from `val` on; the new memory
 // goes to its place. Address and value are copied, since the memory is a part of the map that is lent to be written.
+#[tactic(auto, unfolding(crate::specs::Place::write_at, words::specs::Num::filled))]
 pub fn write_at(
     list: &mut GateList,
     addrs: &[u64],
