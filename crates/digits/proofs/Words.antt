@@ -1,5 +1,5 @@
 -- Words of known bits: the digits that were put, the test, and what the code's steps come to.
-use mathlib.Core.Path.{◌≡◌, refl, ap, ◌∙◌}
+use mathlib.Core.Path.{◌≡◌, refl, ap, sym, ◌∙◌}
 use mathlib.Core.List.{List}
 use mathlib.Core.Bool.{Bool, true, false, not, false≢true}
 use Prim.Native.Nat.{ℕ, zero, suc, ◌+◌, ◌*◌, ◌/◌, ◌%◌, ◌^◌, ◌≤◌, ◌<◌}
@@ -12,13 +12,12 @@ use lib.Dec.{leb}
 use lib.Pow.{pow-lt}
 use lib.ListN.{length, get_or, set, length-set}
 use lib.Seq.{get_or-set_same, get_or-set_other}
-use borrow.Author.Tests.{leb-true, leb-false, not-false}
+use borrow.Author.Tests.{leb-true, le-leb, not-false}
 use Rattle.std.specs.declared.option.Option.{Option}
 use Rattle.std.specs.Option.{unwrap_or}
 use Rattle.loops.specs.Loop.{first, found}
-use Rattle.loops.proofs.Search.{found_or, first_same}
-use Rattle.loops.proofs.Loop.{iter-inv, loop-more, first_below, first-true}
-use Rattle.netlist.specs.Bit.{is_known}
+use Rattle.loops.proofs.Search.{first-is, found_or, first_same}
+use Rattle.loops.proofs.Loop.{iter-inv, loop-more, first_below}
 use Rattle.netlist.proofs.BitLaws.{known-less, less-known}
 use Rattle.digits.specs.Digits.{digit, powers_below, number, digit_step, put_digits, Below, unknown_at, all_known, known_bits}
 use Rattle.digits.proofs.Numbers.{bit-eqb, number_lt}
@@ -49,20 +48,14 @@ unfolding all_known unknown_at
 all_true bs w h i l =
     known-less (get_or bs i 0) (not-false _ (first_below (unknown_at bs) w i (omega (arith, leb-true w (first w (unknown_at bs)) h))))
 
-pub all-false : (bs : List ℕ) (w : ℕ) → all_known w bs ≡ false → Below 2 bs w → ⊥
-unfolding all_known unknown_at
-all-false bs w h k =
-    let f : first w (unknown_at bs) < w = leb-false w (first w (unknown_at bs)) h in
-    let t : not (is_known (get_or bs (first w (unknown_at bs)) 0)) ≡ true = first-true (unknown_at bs) w f in
-    let q : is_known (get_or bs (first w (unknown_at bs)) 0) ≡ true = less-known _ (k (first w (unknown_at bs)) f) in
-    absurd (false≢true (rw q at t))
-
 pub below_all : (bs : List ℕ) (w : ℕ) → Below 2 bs w → all_known w bs ≡ true
-below_all bs w k = go (all_known w bs) refl
-  where
-    go : (b : Bool) → all_known w bs ≡ b → all_known w bs ≡ true
-    go true e = e
-    go false e = absurd (all-false bs w e k)
+unfolding all_known unknown_at
+below_all bs w k =
+    let none : first w (unknown_at bs) ≡ w = first-is (unknown_at bs) w w (omega arith) (λ i h. ap not (less-known (get_or bs i 0) (k i h))) (λ h. absurd (omega arith)) in
+    le-leb w (first w (unknown_at bs)) (omega arith)
+
+pub all-false : (bs : List ℕ) (w : ℕ) → all_known w bs ≡ false → Below 2 bs w → ⊥
+all-false bs w h k = false≢true (sym h ∙ below_all bs w k)
 
 -- what the code's steps come to
 pub digits_more : (a i r : ℕ) (l x : List ℕ) → x ≡ put_digits a i l → r ≡ digit a i → set x i r ≡ put_digits a (i + 1) l

@@ -16,7 +16,8 @@ pub fn digit_of(a: u64, i: usize) -> u32
     ((a >> i) & 1) as u32
 }
 
-// The digits of a, lowest first, as known bits.
+// The digits of a, lowest first, as known bits. w stands beside out: with out[..w] each caller, who lends a longer word, would have to put the
+// two parts together again. The bound of 64 is no type of its own, here and below: these functions take any word.
 #[tactic(auto, using(loops::proofs::Loop::for_loop, crate::proofs::Words::digits_more, std::proofs::lemmas::Grind::common_steps))]
 pub fn put_digits(a: u64, w: usize, out: &mut [u32])
     requires { (w ≤ 64) × (w ≤ length out.old) }

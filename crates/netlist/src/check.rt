@@ -1,5 +1,5 @@
 // The gate list's check: refusal 11, with the first faulty gate.
-ghost use Rattle.std.specs.Prelude.{◌≡◌, ℕ, ◌+◌};
+ghost use Rattle.std.specs.Prelude.{◌≡◌, ℕ, ◌+◌, ◌<◌};
 ghost use Rattle.loops.specs.Loop.{found};
 ghost use Rattle.netlist.specs.Record.{Room, records};
 ghost use Rattle.netlist.specs.Check as check;
@@ -51,9 +51,15 @@ impl Gate {
     // Whether this is the constant that gate i is to be, for i below 2.
     #[tactic(auto, unfolding(crate::specs::Check::const_good))]
     fn const_good(self, i: usize) -> bool
+        requires { i < 2 }
         ensures { result ≡ const_good i self }
     {
-        self.kind as usize == i && self.x == 0 && self.y == 0 && self.z == 0
+        self == Gate {
+            kind: i as u32,
+            x: 0,
+            y: 0,
+            z: 0,
+        }
     }
 
     // Whether gate i may be this one, for i from 2 on.

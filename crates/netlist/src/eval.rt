@@ -47,6 +47,7 @@ fn input_bad(gates: &[u32], values: &[u8], i: usize) -> bool
     Gate::is_free(record::gate_at(gates, i).kind) && 2 <= values[i]
 }
 
+// n stands beside the values: over values[..n] the two parts would have to be put together again, since what lies beyond is promised too.
 #[tactic(auto, using(loops::proofs::Loop::for_loop))]
 fn eval_all(gates: &[u32], values: &mut [u8], n: usize)
     requires { Room gates.now n × (n ≤ length values.old) }

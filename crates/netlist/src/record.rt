@@ -6,7 +6,7 @@ ghost use Rattle.netlist.specs.Record.{gate_at, put, used, Room, records, whole_
 pub const SIZE: usize = 4;
 
 // A gate: its kind, and three numbers that are operands, or node and bit of a free gate; what a kind does not use is 0.
-#[derive(Clone, Copy)]
+#[derive(Clone, Copy, PartialEq, Eq)]
 pub struct Gate {
     pub kind: u32,
     pub x: u32,
@@ -14,7 +14,7 @@ pub struct Gate {
     pub z: u32,
 }
 
-// Record i.
+// Record i. Room speaks of an index and a buffer together, so no type of one of them can hold it: it stands in each contract.
 #[tactic(auto, unfolding(crate::specs::Record::gate_at))]
 pub fn gate_at(gates: &[u32], i: usize) -> Gate
     requires { Room gates.now (i + 1) }
