@@ -45,10 +45,10 @@ fn roots(laid: &Laid, lists: &mut Lists, map: &mut [u32], seen: &mut [u8])
 }
 
 // From the two constants on: no constraint, no bits, nothing seen.
-pub fn lower_roots(
+pub fn lower_roots<'a>(
     laid: &Laid,
-    gates: &mut [u32],
-    cons: &mut [u32],
+    gates: &'a mut [u32],
+    cons: &'a mut [u32],
     map: &mut [u32],
     seen: &mut [u8],
 ) -> Done
