@@ -1,5 +1,5 @@
 -- The lowering: refusals 1 to 6, then 14, then 7, 8, 9; on success gates, constraints and bit map.
-use Rattle.std.specs.Prelude.{◌≡◌, List, ◌++◌, Bool, true, false, ℕ, ◌+◌, ◌/◌, ◌≤◌, ltb, length, drop, replicate, Ok, Err}
+use Rattle.std.specs.Prelude.{◌≡◌, List, ◌++◌, Bool, true, false, ℕ, ◌+◌, ◌/◌, ◌≤◌, ltb, length, drop, replicate, Ok}
 use Rattle.loops.specs.Loop.{pick}
 use Rattle.table.specs.Node.{nodes}
 use Rattle.table.specs.declared.Sums.{Sums}
@@ -17,7 +17,7 @@ use Rattle.nodes.specs.Recipe.{recipe}
 -- the sheet's number of an answer, and the node beside it; 0 is no refusal
 abbrev pub number : Answer → ℕ
 number (Done g c) = 0
-number (Table f) = sheet.number (Err f)
+number (Table f) = sheet.number_of f
 number NothingAsked = 14
 number GateRoom = 7
 number BitRoom = 8
@@ -25,7 +25,7 @@ number ConstraintRoom = 9
 
 abbrev pub node : Answer → ℕ
 node (Done g c) = 0
-node (Table f) = sheet.node (Err f)
+node (Table f) = sheet.place_of f
 node NothingAsked = 0
 node GateRoom = 0
 node BitRoom = 0

@@ -8,6 +8,7 @@ ghost use Rattle.lowering.specs.Promise.{Promise};
 
 use crate::root::lower_roots;
 use netlist::record;
+use netlist::sheet::OnSheet;
 use table::{Fault, Unit};
 
 // What lowering answers: the numbers of gates and of constraints, or a refusal.
@@ -41,7 +42,7 @@ pub fn node(a: Answer) -> usize
 {
     match a {
         Answer::Done { .. } => 0,
-        Answer::Table(f) => f.node(),
+        Answer::Table(f) => f.place(),
         Answer::NothingAsked => 0,
         Answer::GateRoom => 0,
         Answer::BitRoom => 0,

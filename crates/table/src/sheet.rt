@@ -1,4 +1,4 @@
-ghost use Rattle.std.specs.Prelude.{◌≡◌, ◌^◌, ◌≤◌, ◌<◌, ltb, length, Ok, Err};
+ghost use Rattle.std.specs.Prelude.{◌≡◌, ◌^◌, ◌≤◌, ◌<◌, ltb, length};
 ghost use Rattle.loops.specs.Loop.{found};
 ghost use Rattle.table.specs.Sheet as sheet;
 ghost use Rattle.table.specs.Sheet.{size_good, is_at, address_bad, addresses_bad, operand, operands_good, sort_good, sorts_good, fault_of, node_fault, nodes_fault, table_fault};
@@ -9,12 +9,14 @@ use crate::kind::{
     named, uses_a, uses_b, uses_c, uses_imm,
 };
 use crate::{Fault, Node};
+use netlist::sheet::OnSheet;
 
-impl Fault {
-    // Its number on the sheet.
-    pub fn number(self) -> u64
-        ensures { result ≡ sheet.number (Err self) }
-    {
+impl OnSheet for Fault {
+    ghost number_of = { sheet.number_of };
+
+    ghost place_of = { sheet.place_of };
+
+    fn number(self) -> u64 {
         match self {
             Fault::Size => 1,
             Fault::Address => 2,
@@ -25,34 +27,12 @@ impl Fault {
         }
     }
 
-    // The node that stands beside it.
-    pub fn node(self) -> usize
-        ensures { result ≡ sheet.node (Err self) }
-    {
+    // A node.
+    fn place(self) -> usize {
         match self {
             Fault::Size | Fault::Address => 0,
             Fault::Kind(i) | Fault::NotLowered(i) | Fault::Operand(i) | Fault::Sort(i) => i,
         }
-    }
-}
-
-// What crosses to C of a table's check: the number on the sheet; 0 is no fault.
-pub fn number(r: Result<(), Fault>) -> u64
-    ensures { result ≡ sheet.number r }
-{
-    match r {
-        Ok(()) => 0,
-        Err(f) => f.number(),
-    }
-}
-
-// And the node beside it.
-pub fn node(r: Result<(), Fault>) -> usize
-    ensures { result ≡ sheet.node r }
-{
-    match r {
-        Ok(()) => 0,
-        Err(f) => f.node(),
     }
 }
 

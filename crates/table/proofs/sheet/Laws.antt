@@ -13,15 +13,15 @@ use lib.ListN.{length, get_or, take}
 use Rattle.std.specs.List.{IsAnyAnswer}
 use Rattle.std.proofs.lemmas.List.{get_or-take, length-take-le}
 use Rattle.table.proofs.Any.{any-some, any-none}
-use borrow.Author.Tests.{lt-ltb, le-ltb, eq-eqb, ne_eqb}
+use borrow.Author.Tests.{lt-ltb, le-ltb, ne_eqb}
 use Rattle.loops.specs.Loop.{pick, first}
-use Rattle.loops.proofs.Loop.{pick_true, pick-false, first_more, first_found, first_done}
+use Rattle.loops.proofs.Loop.{pick_true, pick-false, first_more, first_found}
 use Rattle.table.specs.declared.Fault.{Fault}
 use Rattle.table.specs.declared.Fault.TheVariants.{Size, Address, Kind, NotLowered, Operand, Sort}
 use Rattle.table.specs.declared.Node.{Node}
-use Rattle.table.specs.Kind.{BAD, named, lowered}
-use Rattle.table.specs.Node.{kind_of, node_at, nodes}
-use Rattle.table.specs.Sheet.{is_clear, size_good, is_at, address_bad, addresses_bad, operands_good, sorts_good, fault_of, node_fault, node_bad, nodes_fault, table_fault, asks_at, asks}
+use Rattle.table.specs.Kind.{named, lowered}
+use Rattle.table.specs.Node.{nodes}
+use Rattle.table.specs.Sheet.{is_clear, size_good, is_at, address_bad, addresses_bad, operands_good, sorts_good, fault_of, node_fault, node_bad, nodes_fault, table_fault}
 
 -- a shift tests a bound
 pub fits-small : (x k : ℕ) → eqb (x / 2 ^ k) 0 ≡ ltb x (2 ^ k)
