@@ -37,6 +37,7 @@ impl OnSheet for Fault {
 }
 
 // Whether x is below 2^width.
+#[tactic(auto, using(crate::proofs::sheet::Laws::fits_rules))]
 pub fn fits(x: u64, width: u64) -> bool
     ensures { result ≡ ltb x (2 ^ width) }
 {
@@ -46,6 +47,7 @@ pub fn fits(x: u64, width: u64) -> bool
     true
 }
 
+#[tactic(auto, unfolding(crate::specs::Sheet::size_good))]
 fn size_good(table: &[u64], addrs: &[u64], w: u64) -> bool
     ensures { result ≡ size_good table.now addrs.now w }
 {
@@ -81,6 +83,7 @@ fn operand_good(must: bool, may: bool, i: usize, x: u64) -> bool
     (!must & (x == 0)) | (may & (1 <= x) & ((x as usize) < i))
 }
 
+#[tactic(auto, unfolding(crate::specs::Sheet::operands_good))]
 fn operands_good(i: usize, node: Node) -> bool
     ensures { result ≡ operands_good i node }
 {
@@ -92,6 +95,7 @@ fn operands_good(i: usize, node: Node) -> bool
 }
 
 // The sort rules, for a node over operands of widths va, vb and vc.
+#[tactic(auto, unfolding(crate::specs::Sheet::sort_good))]
 fn sort_good(w: u64, node: Node, va: u64, vb: u64, vc: u64) -> bool
     ensures { result ≡ sort_good w node va vb vc }
 {
@@ -111,6 +115,7 @@ fn sort_good(w: u64, node: Node, va: u64, vb: u64, vc: u64) -> bool
             | ((k == WRITE) & (v == 0) & (va == 0) & (vb == w) & (vc == w)))
 }
 
+#[tactic(auto, unfolding(crate::specs::Sheet::sorts_good))]
 fn sorts_good(table: &[u64], w: u64, node: Node) -> bool
     ensures { result ≡ sorts_good table.now w node }
 {
@@ -121,6 +126,7 @@ fn sorts_good(table: &[u64], w: u64, node: Node) -> bool
 }
 
 // The first of 3 to 6 at a node with number i.
+#[tactic(auto, unfolding(crate::specs::Sheet::fault_of, loops::specs::Loop::pick))]
 fn fault_of(table: &[u64], w: u64, i: usize, node: Node) -> Result<(), Fault>
     ensures { result ≡ fault_of table.now w i node }
 {
@@ -139,6 +145,7 @@ fn fault_of(table: &[u64], w: u64, i: usize, node: Node) -> Result<(), Fault>
     Ok(())
 }
 
+#[tactic(auto, unfolding(crate::specs::Sheet::node_fault))]
 fn node_fault(table: &[u64], w: u64, i: usize) -> Result<(), Fault>
     ensures { result ≡ node_fault table.now w i }
 {
@@ -146,6 +153,7 @@ fn node_fault(table: &[u64], w: u64, i: usize) -> Result<(), Fault>
 }
 
 // Nodes upwards, to the first with a fault.
+#[tactic(auto, using(crate::proofs::sheet::Laws::nodes_rules))]
 fn nodes_fault(table: &[u64], w: u64) -> Result<(), Fault>
     ensures { result ≡ nodes_fault table.now w }
 {
@@ -156,6 +164,7 @@ fn nodes_fault(table: &[u64], w: u64) -> Result<(), Fault>
 }
 
 // The first of 1 to 6 that applies to a table, its listed addresses and its word width.
+#[tactic(auto, unfolding(crate::specs::Sheet::table_fault, loops::specs::Loop::pick))]
 pub fn check_table(table: &[u64], addrs: &[u64], w: u64) -> Result<(), Fault>
     ensures { result ≡ table_fault table.now addrs.now w }
 {
