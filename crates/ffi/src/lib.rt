@@ -17,6 +17,11 @@ use netlist::sheet;
 use table::{Fault, Sums};
 
 // The sums of a table that was checked.
+#[tactic(
+    auto,
+    using(table::proofs::sheet::Laws::faulty),
+    unfolding(crate::specs::Count::room_for, loops::specs::Loop::pick)
+)]
 fn room_of(table: &[u64], addrs: &[u64], word: u64, checked: Result<(), Fault>) -> Sums
     requires { checked ≡ table_fault table.now addrs.now word }
     ensures { result ≡ room_for table.now addrs.now word }
@@ -53,8 +58,8 @@ pub extern "C" fn ramstitcher_room(
     *gates = s.gates;
     *constraints = s.constraints;
     *map = s.map;
-    *node = table::sheet::node(checked);
-    table::sheet::number(checked)
+    *node = sheet::place(checked);
+    sheet::number(checked)
 }
 
 // The lowering. Returns the number on the refusal sheet, 0 for none.
@@ -98,8 +103,8 @@ pub extern "C" fn ramstitcher_eval_words(
     ensures values_after { values.new ≡ (words.eval_words table.now addrs.now word values.old).values }
 {
     let a = values::eval::eval_words(table, addrs, word, values);
-    *node = values::eval::node(a);
-    values::eval::number(a)
+    *node = sheet::place(a);
+    sheet::number(a)
 }
 
 // The gate evaluator.

@@ -24,14 +24,14 @@ done n k = record { gates = n; constraints = k }
 
 -- a refusal's number on the sheet, and the node beside it
 abbrev pub number_of : Refusal → ℕ
-number_of (Table f) = sheet.number (Err f)
+number_of (Table f) = sheet.number_of f
 number_of NothingAsked = 14
 number_of GateRoom = 7
 number_of BitRoom = 8
 number_of ConstraintRoom = 9
 
 abbrev pub place_of : Refusal → ℕ
-place_of (Table f) = sheet.node (Err f)
+place_of (Table f) = sheet.place_of f
 place_of NothingAsked = 0
 place_of GateRoom = 0
 place_of BitRoom = 0

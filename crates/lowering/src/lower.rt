@@ -58,7 +58,7 @@ impl OnSheet for Refusal {
     // The node that stands beside it.
     fn place(self) -> usize {
         match self {
-            Refusal::Table(f) => f.node(),
+            Refusal::Table(f) => f.place(),
             _ => 0,
         }
     }

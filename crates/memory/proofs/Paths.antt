@@ -34,7 +34,7 @@ use Rattle.words.proofs.EachLaws.{ors-cost, choose-cost, each_long, each-rest, p
 use Rattle.words.proofs.EqLaws.{eq-left}
 use Rattle.words.proofs.MulStep.{row-cost}
 use Rattle.words.proofs.Paths.{each-most}
-use Rattle.memory.specs.Address.{part, listed_at, at_listed}
+use Rattle.memory.specs.Address.{part, at_listed}
 use Rattle.memory.specs.Read.{cleared, read_known, read_one, read_step, read_words}
 use Rattle.memory.specs.Write.{write_known, write_one, write_step, write_words}
 use Rattle.memory.proofs.AddressLaws.{digits-known, at-ext, word_end}

@@ -1,14 +1,15 @@
 -- The law of values of reads, and what a read's or write's address says.
-use mathlib.Core.Path.{◌≡◌, ap, sym, ◌∙◌}
+use mathlib.Core.Path.{◌≡◌, refl, ap, sym, ◌∙◌}
 use mathlib.Core.List.{List}
+use Rattle.std.specs.Prelude.{Option, Some, None}
 use mathlib.Core.Bool.{true}
 use Prim.Native.Nat.{ℕ, ◌+◌, ◌-◌, ◌*◌, ◌≤◌, ◌<◌}
 use native.Mathlib.Omega.{arith}
-use native.Mathlib.Decide.{dec_lt}
 use lib.ListN.{length, get_or, drop}
 use lib.Seq.{get_or-take, get_or-drop}
-use borrow.Author.Tests.{eqb-true, eqb-false, lt-ltb, le-ltb}
-use Rattle.loops.proofs.Loop.{pick_true, pick-false, first-true, first_below}
+use borrow.Author.Tests.{eqb-true, eqb-false}
+use Rattle.loops.proofs.Loop.{first-true, first_below}
+use Rattle.loops.proofs.Search.{some_first, none_first}
 use Rattle.table.specs.declared.Node.{Node}
 use Rattle.table.specs.Kind.{ITE, READ, uses_a, uses_b}
 use Rattle.table.specs.Node.{width_of}
@@ -47,13 +48,15 @@ part-num S n y h i lt e =
     ∙ sym (word-bit S n y i j l))))
 
 -- the place of an address, and what is listed there
-pub at_place : (l : List ℕ) (a : ℕ) → word.listed l a < length l → get_or l (word.listed l a) 0 ≡ a
+pub at_place : (l : List ℕ) (a p : ℕ) → Some p ≡ word.listed l a → (p < length l) × (get_or l p 0 ≡ a)
 unfolding is_at
-at_place l a h = eqb-true (get_or l (word.listed l a) 0) a (first-true (is_at l a) (length l) h)
+at_place l a p e =
+    let z = some_first (is_at l a) (length l) p e in
+    (z.1, eqb-true (get_or l p 0) a (rw (← z.0) at (first-true (is_at l a) (length l) (rw z.0 at z.1))))
 
-no_place : (l : List ℕ) (a : ℕ) → length l ≤ word.listed l a → (i : ℕ) → i < length l → get_or l i 0 ≡ a → ⊥
+pub no_place : (l : List ℕ) (a : ℕ) → None ≡ word.listed l a → (i : ℕ) → i < length l → get_or l i 0 ≡ a → ⊥
 unfolding is_at
-no_place l a h i lt = eqb-false (get_or l i 0) a (first_below (is_at l a) (length l) i (omega arith))
+no_place l a e i lt = eqb-false (get_or l i 0) a (first_below (is_at l a) (length l) i (omega (arith, none_first (is_at l a) (length l) e)))
 
 module _ {S : Source} {x : List ℕ} (v : Evaluated S x) {k : ℕ} (is : Is (recipe S) k) where
   abbrev d : Node
@@ -72,7 +75,7 @@ module _ {S : Source} {x : List ℕ} (v : Evaluated S x) {k : ℕ} (is : Is (rec
   W-range = let q = within S.table S.addrs S.word v.clear in (q.3, q.4)
 
   -- where the address stands
-  abbrev place : ℕ
+  abbrev place : Option ℕ
   place = word.listed S.addrs (get_or x ob 0)
 
   -- an address is a word of width W, and says its value
@@ -88,7 +91,7 @@ module _ {S : Source} {x : List ℕ} (v : Evaluated S x) {k : ℕ} (is : Is (rec
   unfolding read_word read_value
   read_made reads e hw ha hb m i t lt =
       word_made v is (listed S * (4 * S.word - 1)) lt (rw e) L.ext
-      (λ h ce o. ap (λ z. num h out z) wk ∙ (said h ce o (dec_lt place (listed S)) ∙ sym (at_read S.addrs d (width_of S.table d.a) x oa ob oc _ i e ∙ ap (read_value S.addrs x oa) (place-access S.addrs d x ob (rw e)))))
+      (λ h ce o. ap (λ z. num h out z) wk ∙ (said h ce o place refl ∙ sym (at_read d (width_of S.table d.a) x oa ob oc _ i e ∙ ap (read_value x oa) (place-access S.addrs d x ob (rw e)))))
     where
       mem : List ℕ
       mem = all_at S t.map d.a
@@ -114,13 +117,12 @@ module _ {S : Source} {x : List ℕ} (v : Evaluated S x) {k : ℕ} (is : Is (rec
       na : words_of S d.a ≡ listed S
       na = memory-words S d.a ha
 
-      said : (h : Assign) → Considered (meaning S x) (read_words (listed S) S.word S.addrs mem adr (fresh t.net)).net h → Operable S x k m h t.map → Dec (place < listed S)
-          → num h out S.word ≡ read_value S.addrs x oa place
-      said h ce o (yes p) =
-          let q : get_or S.addrs place 0 ≡ num h adr S.word = at_place S.addrs (get_or x ob 0) p ∙ sym (address-says (ap uses_b e) (λ q. omega arith) hb m t.map h o) in
-          let r : word_num h mem place (wide_of S d.a) ≡ slot_of S x d.a place =
-          part-num S t.map d.a ua place (rw na p) h ∙ right-says v (a-is v is ua) {i = place} (rw na p) h t.map (a-right v is m t.map h o ua) in
-          L.hit h ce.obeys place p q ∙ ((rw wa at r) ∙ sym (pick_true _ _ _ (lt-ltb place (listed S) p)))
-      said h ce o (no p) =
-          L.miss h ce.obeys (λ j l q. no_place S.addrs (get_or x ob 0) (omega arith) j l (q ∙ address-says (ap uses_b e) (λ q. omega arith) hb m t.map h o))
-          ∙ sym (pick-false _ _ _ (le-ltb place (listed S) (omega arith)))
+      said : (h : Assign) → Considered (meaning S x) (read_words (listed S) S.word S.addrs mem adr (fresh t.net)).net h → Operable S x k m h t.map → (p : Option ℕ) → p ≡ place
+          → num h out S.word ≡ read_value x oa p
+      said h ce o (Some p) ep =
+          let z = at_place S.addrs (get_or x ob 0) p ep in
+          let q : get_or S.addrs p 0 ≡ num h adr S.word = z.1 ∙ sym (address-says (ap uses_b e) (λ q. omega arith) hb m t.map h o) in
+          let r : word_num h mem p (wide_of S d.a) ≡ slot_of S x d.a p =
+          part-num S t.map d.a ua p (rw na z.0) h ∙ right-says v (a-is v is ua) {i = p} (rw na z.0) h t.map (a-right v is m t.map h o ua) in
+          L.hit h ce.obeys p z.0 q ∙ (rw wa at r)
+      said h ce o None ep = L.miss h ce.obeys (λ j l q. no_place S.addrs (get_or x ob 0) ep j l (q ∙ address-says (ap uses_b e) (λ q. omega arith) hb m t.map h o))

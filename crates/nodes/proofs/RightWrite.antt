@@ -1,6 +1,7 @@
 -- The law of values of writes.
-use mathlib.Core.Path.{◌≡◌, ap, ap₂, sym, ◌∙◌}
+use mathlib.Core.Path.{◌≡◌, refl, ap, ap₂, sym, ◌∙◌}
 use mathlib.Core.List.{List}
+use Rattle.std.specs.Prelude.{Option, Some, None}
 use mathlib.Core.Bool.{true}
 use Prim.Native.Nat.{ℕ, ◌+◌, ◌-◌, ◌*◌, ◌/◌, ◌%◌, ◌≤◌, ◌<◌}
 use native.Mathlib.Omega.{arith}
@@ -11,9 +12,10 @@ use lib.ListN.{length, get_or, take, drop, length-drop}
 use lib.Seq.{get_or-drop, length-take-le}
 use borrow.Author.Tests.{eq-eqb, ne_eqb}
 use Rattle.loops.specs.Loop.{pick}
+use Rattle.loops.proofs.Loop.{pick-false}
 use Rattle.table.specs.Kind.{WRITE, uses_a, uses_b, uses_c}
 use Rattle.table.specs.Node.{width_of}
-use Rattle.table.proofs.Whole.{found_at}
+use Rattle.table.proofs.Whole.{distinct}
 use Rattle.values.specs.Value as word
 use Rattle.values.specs.Value.{write_value}
 use Rattle.values.proofs.ByKind.{at-write, place-access}
@@ -41,19 +43,21 @@ use Rattle.nodes.proofs.MeaningPlaces.{Sheeted, wide-range, place_in, word-bit}
 use Rattle.nodes.proofs.Meaning.{Evaluated, value-at}
 use Rattle.nodes.proofs.RightWords.{Operable, WordSays, WordsSay, words-made, considered-back, inputs-trans, inputs-bound}
 use Rattle.nodes.proofs.RightOperands.{sound, a-is, c-is, a-right, c-right, word-says}
-use Rattle.nodes.proofs.RightRead.{part-num, at_place, W-range, address-says}
+use Rattle.nodes.proofs.RightRead.{part-num, at_place, no_place, W-range, address-says}
 
 -- the place of an address is i exactly if it is listed there
-place_is : (S : Source) → Sheeted S → (a i : ℕ) → i < listed S → eqb i (word.listed S.addrs a) ≡ eqb (get_or S.addrs i 0) a
-place_is S clear a i lt = go (ℕ_discrete (get_or S.addrs i 0) a)
+place_is : (S : Source) → Sheeted S → (x : List ℕ) (o y a i : ℕ) → i < listed S → (p : Option ℕ) → p ≡ word.listed S.addrs a
+    → write_value x o p y i ≡ pick (eqb (get_or S.addrs i 0) a) y (get_or x (o + i) 0)
+unfolding write_value
+place_is S clear x o y a i lt (Some p) e = ap (λ b. pick b y (get_or x (o + i) 0)) (go (ℕ_discrete (get_or S.addrs i 0) a))
   where
-    go : Dec (get_or S.addrs i 0 ≡ a) → eqb i (word.listed S.addrs a) ≡ eqb (get_or S.addrs i 0) a
-    go (yes q) =
-        let p : word.listed S.addrs a ≡ i = ap (word.listed S.addrs) (sym q) ∙ found_at S.table S.addrs S.word clear i lt in
-        eq-eqb i (word.listed S.addrs a) (sym p) ∙ sym (eq-eqb (get_or S.addrs i 0) a q)
-    go (no q) =
-        ne_eqb i (word.listed S.addrs a) (λ p. q (ap (λ n. get_or S.addrs n 0) p ∙ at_place S.addrs a (omega arith)))
-        ∙ sym (ne_eqb (get_or S.addrs i 0) a q)
+    z : (p < listed S) × (get_or S.addrs p 0 ≡ a)
+    z = at_place S.addrs a p e
+
+    go : Dec (get_or S.addrs i 0 ≡ a) → eqb i p ≡ eqb (get_or S.addrs i 0) a
+    go (yes q) = eq-eqb i p (distinct S.table S.addrs S.word clear i p lt z.0 (q ∙ sym z.1)) ∙ sym (eq-eqb (get_or S.addrs i 0) a q)
+    go (no q) = ne_eqb i p (λ r. q (ap (λ n. get_or S.addrs n 0) r ∙ z.1)) ∙ sym (ne_eqb (get_or S.addrs i 0) a q)
+place_is S clear x o y a i lt None e = sym (pick-false _ _ _ (ne_eqb (get_or S.addrs i 0) a (no_place S.addrs a e i lt)))
 
 module _ {S : Source} {x : List ℕ} (v : Evaluated S x) {k : ℕ} (writes : WritesOwed S) (e : (node_of S k).kind ≡ WRITE) (hw : (node_of S k).width ≡ 0) (ha : width_of S.table (node_of S k).a ≡ 0)
     (hb : width_of S.table (node_of S k).b ≡ S.word) (hc : width_of S.table (node_of S k).c ≡ S.word) (s : Core) (ready : Ready (recipe S) k s) where
@@ -156,12 +160,11 @@ module _ {S : Source} {x : List ℕ} (v : Evaluated S x) {k : ℕ} (writes : Wri
       ap (λ z. num h val z) (sym w) ∙ word-says v is (c-is v is u) l h s.map (c-right v is s.map s.map h o (λ q. omega arith) u)
 
   written : (i : ℕ) → i < words_of S k → slot_of S x k i ≡ pick (eqb (get_or S.addrs i 0) (get_or x ob 0)) (get_or x oc 0) (slot_of S x (node_of S k).a i)
-  unfolding write_value
   written i lt =
       v.made k i is lt (rw e)
-      ∙ (at-write S.addrs (node_of S k) (width_of S.table (node_of S k).a) x oa ob oc _ i e
+      ∙ (at-write (node_of S k) (width_of S.table (node_of S k).a) x oa ob oc _ i e
       ∙ (ap (λ p. write_value x oa p (get_or x oc 0) i) (place-access S.addrs (node_of S k) x ob (rw e))
-      ∙ ap (λ b. pick b (get_or x oc 0) (get_or x (oa + i) 0)) (place_is S v.clear (get_or x ob 0) i (rw nk at lt))))
+      ∙ place_is S v.clear x oa (get_or x oc 0) (get_or x ob 0) i (rw nk at lt) _ refl))
 
   -- and the written ones the node's
   new-says : (h : Assign) → Considered (meaning S x) y.net h → Operable S x k s.map h s.map → (i : ℕ) → i < words_of S k → word_num h y.out i (wide_of S k) ≡ slot_of S x k i

@@ -5,7 +5,7 @@ use mathlib.Core.Bool.{Bool, true, ◌&&◌}
 use Prim.Native.Nat.{ℕ, ◌+◌, ◌-◌, ◌*◌, ◌/◌, ◌%◌, ◌^◌}
 use lib.Dec.{eqb}
 use lib.ListN.{get_or, take, replicate}
-use Rattle.loops.specs.Loop.{pick, iter, first, sum}
+use Rattle.loops.specs.Loop.{pick, iter, first, found, sum}
 use Rattle.table.specs.Ceiling.{div_gates, div_constraints, memory_gates, ite_gates, plain_gates, ceiling, constraint_ceiling, node_gates, node_constraints, sums_of}
 use Rattle.table.specs.Op.{by_op}
 use Rattle.table.specs.Node.{field_at}
@@ -185,5 +185,5 @@ right r l = all_right r l (eval_gates (take (used 13) l.gates) given).values row
 
 -- lent: 1,000 gates, 64 constraints, 1,000 places
 pub small : right (eval_words table addresses 2 before) (lower_all (source table addresses 2) (replicate 4000 0) (replicate 128 0) (replicate 1000 0)) ≡ true
-unfolding right all_right asked pick iter first sum div_gates div_constraints memory_gates ite_gates plain_gates ceiling constraint_ceiling node_gates node_constraints sums_of field_at size_good is_at address_bad addresses_bad operands_good sort_good sorts_good fault_of node_fault node_bad nodes_fault table_fault asks_at asks node_size offset_of size_sum slot_width slot_bad input_bad slot_step node_step eval_clear eval_words not_word add_word sub_word mul_word div_word rem_word word_value read_value write_value ite_value place_at slot_at is_known known_of by_known field_good const_good later_good faulty list_fault gate_value eval_step out_of_range eval_sound eval_gates free uses_y uses_z value_of gate_at put two_known one_known none_known adder_bit true_side false_side both_sides choice_bit mux_bit not_bit and_bit or_bit xnor_bit added digits.digit digits.number digit_step unknown_at all_known add_step bitwise each_step copy_step join_step eq_words mul_step filled sub_words ult_words sum_words check_words put_con constrain con_step div_words free_word divide_words pair_step row_step at_listed read_known read_one read_step read_words write_known write_step write_words owned enter mark visit_to root_step lower_to stored start ended lower_clear lower_asked lower_all word_step input_step input_word share_word above_of choose_word read_word plain_word by_op op_into op_value op_gates word_own write_own divide_own ite_own own_step words_of wide_of bits_of gates_of asks_of second_of third_of
+unfolding right all_right asked pick iter first found sum div_gates div_constraints memory_gates ite_gates plain_gates ceiling constraint_ceiling node_gates node_constraints sums_of field_at size_good is_at address_bad addresses_bad operands_good sort_good sorts_good fault_of node_fault node_bad nodes_fault table_fault asks_at asks node_size offset_of size_sum slot_width slot_bad input_bad slot_step node_step eval_clear eval_words not_word add_word sub_word mul_word div_word rem_word word_value read_value write_value ite_value place_at slot_at is_known known_of by_known field_good const_good later_good faulty list_fault gate_value eval_step out_of_range eval_sound eval_gates free uses_y uses_z value_of gate_at put two_known one_known none_known adder_bit true_side false_side both_sides choice_bit mux_bit not_bit and_bit or_bit xnor_bit added digits.digit digits.number digit_step unknown_at all_known add_step bitwise each_step copy_step join_step eq_words mul_step filled sub_words ult_words sum_words check_words put_con constrain con_step div_words free_word divide_words pair_step row_step at_listed read_known read_one read_step read_words write_known write_step write_words owned enter mark visit_to root_step lower_to stored start ended lower_clear lower_asked lower_all word_step input_step input_word share_word above_of choose_word read_word plain_word by_op op_into op_value op_gates word_own write_own divide_own ite_own own_step words_of wide_of bits_of gates_of asks_of second_of third_of
 small = refl

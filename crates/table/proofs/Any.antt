@@ -1,5 +1,5 @@
 -- `(0..n).any(|i| test)`, said by `first`.
-use Prim.Native.Nat.{ℕ, ◌+◌, ◌<◌, ◌≤◌}
+use Prim.Native.Nat.{ℕ, ◌+◌, ◌<◌}
 use denote.Param.Members.{Mut}
 use lib.Dec.{ltb}
 use lib.ListN.{length, get_or}

@@ -1,30 +1,36 @@
 -- The refusal sheet, 1 to 6, and whether a table asks anything.
 use Rattle.std.specs.Prelude.{List, Bool, not, ◌&&◌, ◌||◌, ℕ, ◌+◌, ◌%◌, ◌^◌, eqb, ltb, leb, get_or, length, Result, Ok, Err}
 use Rattle.loops.specs.Loop.{pick, first}
+use Rattle.netlist.specs.Sheet.{told}
 use Rattle.table.specs.declared.Fault.{Fault}
 use Rattle.table.specs.declared.Fault.TheVariants.{Size, Address, Kind, NotLowered, Operand, Sort}
 use Rattle.table.specs.declared.Node.{Node}
 use Rattle.table.specs.Kind.{CONST, INPUT, STATE, NOT, BAD, ITE, READ, WRITE, named, lowered, may_use_a, uses_a, uses_b, uses_c, uses_imm, evenly, extends, compares}
 use Rattle.table.specs.Node.{kind_of, width_of, node_at, nodes}
 
--- the sheet's number of a check, and the node beside it; 0 is no fault
+-- the sheet's number of a fault, and the node beside it
+abbrev pub number_of : Fault → ℕ
+number_of Size = 1
+number_of Address = 2
+number_of (Kind i) = 3
+number_of (NotLowered i) = 4
+number_of (Operand i) = 5
+number_of (Sort i) = 6
+
+abbrev pub place_of : Fault → ℕ
+place_of Size = 0
+place_of Address = 0
+place_of (Kind i) = i
+place_of (NotLowered i) = i
+place_of (Operand i) = i
+place_of (Sort i) = i
+
+-- of a check; 0 is no fault
 abbrev pub number : Result Unit Fault → ℕ
-number (Ok u) = 0
-number (Err Size) = 1
-number (Err Address) = 2
-number (Err (Kind i)) = 3
-number (Err (NotLowered i)) = 4
-number (Err (Operand i)) = 5
-number (Err (Sort i)) = 6
+number r = told number_of r
 
 abbrev pub node : Result Unit Fault → ℕ
-node (Ok u) = 0
-node (Err Size) = 0
-node (Err Address) = 0
-node (Err (Kind i)) = i
-node (Err (NotLowered i)) = i
-node (Err (Operand i)) = i
-node (Err (Sort i)) = i
+node r = told place_of r
 
 -- what follows a check: a where there is no fault, else f of the fault
 abbrev pub by_fault : {A : Type 0} → Result Unit Fault → A → (Fault → A) → A

@@ -19,6 +19,7 @@ fn less_one(a: u64) -> u64
     a - 1
 }
 
+#[tactic(auto, unfolding(crate::specs::Ceiling::div_gates))]
 fn div_gates(v: u64) -> u64
     requires { v ≤ 64 }
     ensures { (result ≡ div_gates v) × (result ≤ 67108864) }
@@ -26,6 +27,7 @@ fn div_gates(v: u64) -> u64
     times(2 * v, v) + 18 * v + 1 + times(v, less_one(v)) / 2
 }
 
+#[tactic(auto, unfolding(crate::specs::Ceiling::div_constraints))]
 fn div_constraints(v: u64) -> u64
     requires { v ≤ 64 }
     ensures { (result ≡ div_constraints v) × (result ≤ 67108864) }
@@ -34,6 +36,7 @@ fn div_constraints(v: u64) -> u64
 }
 
 // A stage for each power of two below the width.
+#[tactic(auto, unfolding(crate::specs::Ceiling::shift_gates))]
 fn shift_gates(v: u64) -> u64
     requires { v ≤ 64 }
     ensures { (result ≡ shift_gates v) × (result ≤ 67108864) }
@@ -43,6 +46,7 @@ fn shift_gates(v: u64) -> u64
 }
 
 // For each listed address k gates a bit, less one.
+#[tactic(auto, unfolding(crate::specs::Ceiling::memory_gates))]
 fn memory_gates(n: u64, w: u64, k: u64) -> u64
     requires { (n ≤ 64) × (w ≤ 64) × (k ≤ 5) }
     ensures { (result ≡ memory_gates n w k) × (result ≤ 67108864) }
@@ -50,6 +54,7 @@ fn memory_gates(n: u64, w: u64, k: u64) -> u64
     times(n, less_one(times(k, w)))
 }
 
+#[tactic(auto, unfolding(crate::specs::Ceiling::ite_gates))]
 fn ite_gates(n: u64, w: u64, v: u64) -> u64
     requires { (n ≤ 64) × (w ≤ 64) × (v ≤ 64) }
     ensures { (result ≡ ite_gates n w v) × (result ≤ 67108864) }
@@ -87,6 +92,7 @@ fn plain_gates(n: u64, w: u64, node: Node, x: u64) -> u64
 }
 
 // The gates that a node may make.
+#[tactic(auto, unfolding(crate::specs::Ceiling::ceiling, loops::specs::Loop::pick))]
 fn ceiling(n: u64, w: u64, node: Node, x: u64) -> u64
     requires { (n ≤ 64) × (w ≤ 64) × (node.width ≤ 64) × (x ≤ 64) }
     ensures { (result ≡ top.ceiling n w node x) × (result ≤ 67108864) }
@@ -101,6 +107,7 @@ fn ceiling(n: u64, w: u64, node: Node, x: u64) -> u64
 }
 
 // The constraints that a node may record.
+#[tactic(auto, unfolding(crate::specs::Ceiling::constraint_ceiling, loops::specs::Loop::pick))]
 fn constraint_ceiling(node: Node) -> u64
     requires { node.width ≤ 64 }
     ensures { (result ≡ constraint_ceiling node) × (result ≤ 67108864) }
@@ -112,6 +119,7 @@ fn constraint_ceiling(node: Node) -> u64
 }
 
 // The gates of node i + 1.
+#[tactic(auto, unfolding(crate::specs::Ceiling::node_gates))]
 pub fn node_gates(table: &[u64], n: u64, w: u64, i: usize) -> u64
     requires { (n ≤ 64) × (w ≤ 64) × (i < 512) × Narrow table.now }
     ensures { (result ≡ node_gates table.now n w i) × (result ≤ 67108864) }
@@ -121,6 +129,7 @@ pub fn node_gates(table: &[u64], n: u64, w: u64, i: usize) -> u64
 }
 
 // The constraints of node i + 1.
+#[tactic(auto, unfolding(crate::specs::Ceiling::node_constraints))]
 fn node_constraints(table: &[u64], i: usize) -> u64
     requires { (i < 512) × Narrow table.now }
     ensures { (result ≡ node_constraints table.now i) × (result ≤ 67108864) }

@@ -5,22 +5,16 @@ use crate::Node;
 use crate::kind::{INPUT, STATE};
 
 // Field k of node i, of any table: 0 where there is none.
+#[tactic(auto, unfolding(crate::specs::Node::field_at, loops::specs::Loop::pick))]
 fn field(table: &[u64], i: usize, k: usize) -> u64
     requires { k < 6 }
     ensures { result ≡ field_at table.now i k }
 {
-    if i == 0 {
+    // The second test is for the product, which else could wrap.
+    if (i == 0) | (table.len() < i) {
         return 0;
     }
-    // No product below wraps for an i that passes.
-    if table.len() <= i - 1 {
-        return 0;
-    }
-    let at = 6 * (i - 1) + k;
-    if table.len() <= at {
-        return 0;
-    }
-    table[at]
+    table.get(6 * (i - 1) + k).copied().unwrap_or(0)
 }
 
 pub fn node_at(table: &[u64], i: usize) -> Node

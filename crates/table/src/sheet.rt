@@ -1,4 +1,4 @@
-ghost use Rattle.std.specs.Prelude.{◌≡◌, ◌^◌, ◌≤◌, ◌<◌, ltb, length, Ok, Err};
+ghost use Rattle.std.specs.Prelude.{◌≡◌, ◌^◌, ◌≤◌, ◌<◌, ltb, length};
 ghost use Rattle.loops.specs.Loop.{found};
 ghost use Rattle.table.specs.Sheet as sheet;
 ghost use Rattle.table.specs.Sheet.{size_good, is_at, address_bad, addresses_bad, operand, operands_good, sort_good, sorts_good, fault_of, node_fault, nodes_fault, table_fault};
@@ -9,12 +9,14 @@ use crate::kind::{
     named, uses_a, uses_b, uses_c, uses_imm,
 };
 use crate::{Fault, Node};
+use netlist::sheet::OnSheet;
 
-impl Fault {
-    // Its number on the sheet.
-    pub fn number(self) -> u64
-        ensures { result ≡ sheet.number (Err self) }
-    {
+impl OnSheet for Fault {
+    ghost number_of = { sheet.number_of };
+
+    ghost place_of = { sheet.place_of };
+
+    fn number(self) -> u64 {
         match self {
             Fault::Size => 1,
             Fault::Address => 2,
@@ -25,10 +27,8 @@ impl Fault {
         }
     }
 
-    // The node that stands beside it.
-    pub fn node(self) -> usize
-        ensures { result ≡ sheet.node (Err self) }
-    {
+    // A node.
+    fn place(self) -> usize {
         match self {
             Fault::Size | Fault::Address => 0,
             Fault::Kind(i) | Fault::NotLowered(i) | Fault::Operand(i) | Fault::Sort(i) => i,
@@ -36,27 +36,8 @@ impl Fault {
     }
 }
 
-// What crosses to C of a table's check: the number on the sheet; 0 is no fault.
-pub fn number(r: Result<(), Fault>) -> u64
-    ensures { result ≡ sheet.number r }
-{
-    match r {
-        Ok(()) => 0,
-        Err(f) => f.number(),
-    }
-}
-
-// And the node beside it.
-pub fn node(r: Result<(), Fault>) -> usize
-    ensures { result ≡ sheet.node r }
-{
-    match r {
-        Ok(()) => 0,
-        Err(f) => f.node(),
-    }
-}
-
 // Whether x is below 2^width.
+#[tactic(auto, using(crate::proofs::sheet::Laws::fits_rules))]
 pub fn fits(x: u64, width: u64) -> bool
     ensures { result ≡ ltb x (2 ^ width) }
 {
@@ -66,6 +47,7 @@ pub fn fits(x: u64, width: u64) -> bool
     true
 }
 
+#[tactic(auto, unfolding(crate::specs::Sheet::size_good))]
 fn size_good(table: &[u64], addrs: &[u64], w: u64) -> bool
     ensures { result ≡ size_good table.now addrs.now w }
 {
@@ -101,6 +83,7 @@ fn operand_good(must: bool, may: bool, i: usize, x: u64) -> bool
     (!must & (x == 0)) | (may & (1 <= x) & ((x as usize) < i))
 }
 
+#[tactic(auto, unfolding(crate::specs::Sheet::operands_good))]
 fn operands_good(i: usize, node: Node) -> bool
     ensures { result ≡ operands_good i node }
 {
@@ -112,6 +95,7 @@ fn operands_good(i: usize, node: Node) -> bool
 }
 
 // The sort rules, for a node over operands of widths va, vb and vc.
+#[tactic(auto, unfolding(crate::specs::Sheet::sort_good))]
 fn sort_good(w: u64, node: Node, va: u64, vb: u64, vc: u64) -> bool
     ensures { result ≡ sort_good w node va vb vc }
 {
@@ -131,6 +115,7 @@ fn sort_good(w: u64, node: Node, va: u64, vb: u64, vc: u64) -> bool
             | ((k == WRITE) & (v == 0) & (va == 0) & (vb == w) & (vc == w)))
 }
 
+#[tactic(auto, unfolding(crate::specs::Sheet::sorts_good))]
 fn sorts_good(table: &[u64], w: u64, node: Node) -> bool
     ensures { result ≡ sorts_good table.now w node }
 {
@@ -141,6 +126,7 @@ fn sorts_good(table: &[u64], w: u64, node: Node) -> bool
 }
 
 // The first of 3 to 6 at a node with number i.
+#[tactic(auto, unfolding(crate::specs::Sheet::fault_of, loops::specs::Loop::pick))]
 fn fault_of(table: &[u64], w: u64, i: usize, node: Node) -> Result<(), Fault>
     ensures { result ≡ fault_of table.now w i node }
 {
@@ -159,6 +145,7 @@ fn fault_of(table: &[u64], w: u64, i: usize, node: Node) -> Result<(), Fault>
     Ok(())
 }
 
+#[tactic(auto, unfolding(crate::specs::Sheet::node_fault))]
 fn node_fault(table: &[u64], w: u64, i: usize) -> Result<(), Fault>
     ensures { result ≡ node_fault table.now w i }
 {
@@ -166,6 +153,7 @@ fn node_fault(table: &[u64], w: u64, i: usize) -> Result<(), Fault>
 }
 
 // Nodes upwards, to the first with a fault.
+#[tactic(auto, using(crate::proofs::sheet::Laws::nodes_rules))]
 fn nodes_fault(table: &[u64], w: u64) -> Result<(), Fault>
     ensures { result ≡ nodes_fault table.now w }
 {
@@ -176,6 +164,7 @@ fn nodes_fault(table: &[u64], w: u64) -> Result<(), Fault>
 }
 
 // The first of 1 to 6 that applies to a table, its listed addresses and its word width.
+#[tactic(auto, unfolding(crate::specs::Sheet::table_fault, loops::specs::Loop::pick))]
 pub fn check_table(table: &[u64], addrs: &[u64], w: u64) -> Result<(), Fault>
     ensures { result ≡ table_fault table.now addrs.now w }
 {

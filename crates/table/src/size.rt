@@ -14,6 +14,7 @@ pub fn times(a: u64, b: u64) -> u64
 }
 
 // The places of a node of width v, where n addresses are listed and words are w wide.
+#[tactic(auto, unfolding(loops::specs::Loop::pick))]
 pub fn size_of(unit: Unit, n: u64, w: u64, v: u64) -> u64
     requires { (n ≤ 64) × (w ≤ 64) × (v ≤ 64) }
     ensures { (result ≡ size_of unit n w v) × (result ≤ 16777216) }
@@ -35,6 +36,7 @@ pub fn size_of(unit: Unit, n: u64, w: u64, v: u64) -> u64
 }
 
 // The places of node i + 1.
+#[tactic(auto, unfolding(crate::specs::Size::node_size))]
 pub fn node_size(unit: Unit, table: &[u64], n: u64, w: u64, i: usize) -> u64
     requires { (n ≤ 64) × (w ≤ 64) × (i < 512) × Narrow table.now }
     ensures { (result ≡ node_size unit table.now n w i) × (result ≤ 16777216) }

@@ -1,7 +1,6 @@
 -- A node's value looks only at the slots of lower nodes, so the final values are what each node's kind makes of the final values themselves.
-use Rattle.std.proofs.Common.{◌≡◌, refl, Ok, Option, Some, None, ℕ, ◌+◌, ◌-◌, ◌<◌, ◌≤◌, true, false, List, length, get_or, sym, ap, ◌∙◌, ap₂, inl, inr, arith, le-ltb, lt-ltb}
-use native.Mathlib.Decide.{dec_lt}
-use Rattle.loops.specs.Loop.{pick, iter}
+use Rattle.std.proofs.Common.{◌≡◌, refl, Ok, Option, Some, None, ℕ, ◌+◌, ◌-◌, ◌<◌, ◌≤◌, true, false, List, length, get_or, sym, ap, ◌∙◌, ap₂, inl, inr, arith}
+use Rattle.loops.specs.Loop.{iter}
 use Rattle.table.specs.declared.Node.{Node}
 use Rattle.table.specs.Kind.{uses_a, uses_b, uses_c, accesses}
 use Rattle.table.specs.Node.{nodes, node_at, width_of, a_of, b_of, c_of}

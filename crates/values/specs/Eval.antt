@@ -1,6 +1,7 @@
 -- The word evaluator: one slot a word, n a memory, in node order.
 use Rattle.std.specs.Prelude.{ℕ, ◌+◌, ◌^◌, Bool, not, ◌&&◌, List, length, ◌==◌, nat_lt, slice_index, slice_set, Option, Result, Ok, Err}
 use Rattle.loops.specs.Loop.{pick, first, iter}
+use Rattle.netlist.specs.Sheet.{told}
 use Rattle.table.specs.declared.Node.{Node}
 use Rattle.table.specs.declared.Unit.TheVariants.{Slot}
 use Rattle.table.specs.Node.{width_of, a_of, b_of, c_of, node_at, nodes, given, Fine}
@@ -11,18 +12,23 @@ use Rattle.values.specs.declared.Refusal.{Refusal}
 use Rattle.values.specs.declared.Refusal.TheVariants.{Table, ValueRoom, Input}
 use Rattle.values.specs.Value.{place_at, slot_at}
 
--- the sheet's number of an answer, and the node beside it; 0 is no refusal
+-- the sheet's number of a refusal, and the node beside it
+abbrev pub number_of : Refusal → ℕ
+number_of (Table f) = sheet.number_of f
+number_of ValueRoom = 12
+number_of (Input i) = 13
+
+abbrev pub place_of : Refusal → ℕ
+place_of (Table f) = sheet.place_of f
+place_of ValueRoom = 0
+place_of (Input i) = i
+
+-- of an answer; 0 is no refusal
 abbrev pub number : Result Unit Refusal → ℕ
-number (Ok u) = 0
-number (Err (Table f)) = sheet.number (Err f)
-number (Err ValueRoom) = 12
-number (Err (Input i)) = 13
+number r = told number_of r
 
 abbrev pub node : Result Unit Refusal → ℕ
-node (Ok u) = 0
-node (Err (Table f)) = sheet.node (Err f)
-node (Err ValueRoom) = 0
-node (Err (Input i)) = i
+node r = told place_of r
 
 -- the slots of node i + 1, where those of node i begin, and all of them; a word width does not matter
 abbrev pub slots : List ℕ → List ℕ → ℕ → ℕ

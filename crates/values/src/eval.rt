@@ -1,4 +1,4 @@
-ghost use Rattle.std.specs.Prelude.{◌≡◌, ◌+◌, ◌<◌, ◌≤◌, length, Err};
+ghost use Rattle.std.specs.Prelude.{◌≡◌, ◌+◌, ◌<◌, ◌≤◌, length};
 ghost use Rattle.loops.specs.Loop.{iter};
 ghost use Rattle.table.specs.Node.{nodes, Fine};
 ghost use Rattle.values.specs.Eval as eval;
@@ -7,14 +7,16 @@ ghost use Rattle.values.specs.Eval.{total, node_step, run, eval_clear, eval_word
 use crate::Refusal;
 use crate::layout::Layout;
 use crate::slot::{Operands, place_at, slots_of};
+use netlist::sheet::OnSheet;
 use table::field::{is_given, node_at, width_at};
 use table::{Node, Unit};
 
-impl Refusal {
-    // Its number on the refusal sheet.
-    pub fn number(self) -> u64
-        ensures { result ≡ eval.number (Err self) }
-    {
+impl OnSheet for Refusal {
+    ghost number_of = { eval.number_of };
+
+    ghost place_of = { eval.place_of };
+
+    fn number(self) -> u64 {
         match self {
             Refusal::Table(f) => f.number(),
             Refusal::ValueRoom => 12,
@@ -22,35 +24,13 @@ impl Refusal {
         }
     }
 
-    // The node that stands beside it.
-    pub fn node(self) -> usize
-        ensures { result ≡ eval.node (Err self) }
-    {
+    // A node.
+    fn place(self) -> usize {
         match self {
-            Refusal::Table(f) => f.node(),
+            Refusal::Table(f) => f.place(),
             Refusal::ValueRoom => 0,
             Refusal::Input(i) => i,
         }
-    }
-}
-
-// What crosses to C of an answer: the number on the refusal sheet; 0 is no refusal.
-pub fn number(r: Result<(), Refusal>) -> u64
-    ensures { result ≡ eval.number r }
-{
-    match r {
-        Ok(()) => 0,
-        Err(e) => e.number(),
-    }
-}
-
-// And the node beside it.
-pub fn node(r: Result<(), Refusal>) -> usize
-    ensures { result ≡ eval.node r }
-{
-    match r {
-        Ok(()) => 0,
-        Err(e) => e.node(),
     }
 }
 

@@ -12,17 +12,6 @@ use Rattle.table.specs.Node.{field_at, node_at, nodes}
 use Rattle.table.specs.Size.{node_size, size_sum}
 use Rattle.table.specs.Ceiling.{ceiling, node_gates, node_constraints, sums_of}
 
--- what a call told of a test
-pub told-true : (r s : Bool) → r ≡ s → r ≡ true → s ≡ true
-told-true r s e h = sym e ∙ h
-
-pub told-false : (r s : Bool) → r ≡ s → r ≡ false → s ≡ false
-told-false r s e h = sym e ∙ h
-
-pub gates-path : (t : List ℕ) (n w i : ℕ) (d : Node) (x r : ℕ) → d ≡ node_at t (i + 1) → x ≡ field_at t d.a 1 → r ≡ ceiling n w d x → r ≡ node_gates t n w i
-unfolding node_gates
-gates-path t n w i d x r e h q = cc
-
 pub sums-path : (t : List ℕ) (n w g m c i : ℕ) → nodes t ≤ i → i ≤ nodes t → g ≡ 2 + sum i (node_gates t n w) → m ≡ 0 + sum i (node_size Bit t n w) → c ≡ 0 + sum i (node_constraints t)
     → ◌≡◌ {A = Sums} (record { gates = g; map = m; constraints = c }) (sums_of t n w)
 unfolding sums_of size_sum

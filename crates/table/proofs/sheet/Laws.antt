@@ -13,15 +13,15 @@ use lib.ListN.{length, get_or, take}
 use Rattle.std.specs.List.{IsAnyAnswer}
 use Rattle.std.proofs.lemmas.List.{get_or-take, length-take-le}
 use Rattle.table.proofs.Any.{any-some, any-none}
-use borrow.Author.Tests.{lt-ltb, le-ltb, eq-eqb, ne_eqb}
+use borrow.Author.Tests.{lt-ltb, le-ltb, ne_eqb}
 use Rattle.loops.specs.Loop.{pick, first}
-use Rattle.loops.proofs.Loop.{pick_true, pick-false, first_more, first_found, first_done}
+use Rattle.loops.proofs.Loop.{first-none, first_more, first_found}
 use Rattle.table.specs.declared.Fault.{Fault}
 use Rattle.table.specs.declared.Fault.TheVariants.{Size, Address, Kind, NotLowered, Operand, Sort}
 use Rattle.table.specs.declared.Node.{Node}
-use Rattle.table.specs.Kind.{BAD, named, lowered}
-use Rattle.table.specs.Node.{kind_of, node_at, nodes}
-use Rattle.table.specs.Sheet.{is_clear, size_good, is_at, address_bad, addresses_bad, operands_good, sorts_good, fault_of, node_fault, node_bad, nodes_fault, table_fault, asks_at, asks}
+use Rattle.table.specs.Kind.{named, lowered}
+use Rattle.table.specs.Node.{nodes}
+use Rattle.table.specs.Sheet.{is_clear, size_good, is_at, address_bad, addresses_bad, operands_good, sorts_good, fault_of, node_fault, node_bad, nodes_fault, table_fault}
 
 -- a shift tests a bound
 pub fits-small : (x k : ℕ) → eqb (x / 2 ^ k) 0 ≡ ltb x (2 ^ k)
@@ -36,6 +36,8 @@ fits-small x k = go (dec_lt x (2 ^ k))
 pub fits_all : (x k : ℕ) → x < 2 ^ 64 → 64 ≤ k → true ≡ ltb x (2 ^ k)
 fits_all x k h l = sym (lt-ltb x (2 ^ k) (lt_of_lt_of_le h (pow_mono l)))
 
+pub ruleset fits_rules = (fits-small, fits_all)
+
 -- `contains` of the first i addresses
 listed-before : (l : List ℕ) (x i : ℕ) (r : Bool) → i ≤ length l → IsAnyAnswer (λ y b. eqb y x ≡ b) (take i l) r → r ≡ ltb (first i (is_at l x)) i
 unfolding is_at
@@ -48,37 +50,7 @@ pub address-path : (l : List ℕ) (w i : ℕ) (r s : Bool) → i < length l → 
 unfolding address_bad
 address-path l w i r s h a q = rw (← listed-before l (get_or l i 0) i r (omega arith) a, ← q)
 
--- a test that failed was answered, one that held is passed
-stop : {A : Type 0} (r s : Bool) (x y : A) → r ≡ s → not r ≡ true → x ≡ pick (not s) x y
-stop r s x y e b = sym (pick_true (not s) x y (ap not (sym e) ∙ b))
-
-pass : {A : Type 0} (r s : Bool) (x y z : A) → r ≡ s → not r ≡ false → z ≡ y → z ≡ pick (not s) x y
-pass r s x y z e b q = q ∙ sym (pick-false (not s) x y (ap not (sym e) ∙ b))
-
-module _ (t : List ℕ) (w i : ℕ) (d : Node) (r : Bool) (er : r ≡ named d.kind) where
-  pub fault-kind : not r ≡ true → Err (Kind i) ≡ fault_of t w i d
-  unfolding fault_of
-  fault-kind h = stop r _ _ _ er h
-
-  module _ (hr : not r ≡ false) (s : Bool) (es : s ≡ lowered d.kind) where
-    pub fault-lowered : not s ≡ true → Err (NotLowered i) ≡ fault_of t w i d
-    unfolding fault_of
-    fault-lowered h = pass r _ _ _ _ er hr (stop s _ _ _ es h)
-
-    module _ (hs : not s ≡ false) (o : Bool) (eo : o ≡ operands_good i d) where
-      pub fault-operand : not o ≡ true → Err (Operand i) ≡ fault_of t w i d
-      unfolding fault_of
-      fault-operand h = pass r _ _ _ _ er hr (pass s _ _ _ _ es hs (stop o _ _ _ eo h))
-
-      module _ (ho : not o ≡ false) (q : Bool) (eq : q ≡ sorts_good t w d) where
-        pub fault-sort : not q ≡ true → Err (Sort i) ≡ fault_of t w i d
-        unfolding fault_of
-        fault-sort h = pass r _ _ _ _ er hr (pass s _ _ _ _ es hs (pass o _ _ _ _ eo ho (stop q _ _ _ eq h)))
-
-        pub fault-clear : not q ≡ false → Ok tt ≡ fault_of t w i d
-        unfolding fault_of
-        fault-clear h = pass r _ _ _ _ er hr (pass s _ _ _ _ es hs (pass o _ _ _ _ eo ho (pass q _ _ _ _ eq h refl)))
-
+-- a fault is not clear
 pub faulty : (f : Fault) → is_clear (Err f) ≡ false
 faulty Size = refl
 faulty Address = refl
@@ -101,16 +73,4 @@ pub nodes-done : (t : List ℕ) (w : ℕ) → nodes t ≡ first (nodes t) (node_
 unfolding nodes_fault pick
 nodes-done t w e = rw (← e, le-ltb (nodes t) (nodes t) (omega arith))
 
-module _ (t l : List ℕ) (w : ℕ) (r : Bool) (e : r ≡ size_good t l w) where
-  pub table-size : not r ≡ true → Err Size ≡ table_fault t l w
-  unfolding table_fault
-  table-size h = stop r _ _ _ e h
-
-  module _ (h : not r ≡ false) (s : Bool) (q : s ≡ addresses_bad l w) where
-    pub table-address : s ≡ true → Err Address ≡ table_fault t l w
-    unfolding table_fault
-    table-address b = pass r _ _ _ _ e h (sym (pick_true _ _ _ (sym q ∙ b)))
-
-    pub table-nodes : (f : Result Unit Fault) → s ≡ false → f ≡ nodes_fault t w → f ≡ table_fault t l w
-    unfolding table_fault
-    table-nodes f b n = pass r _ _ _ _ e h (n ∙ sym (pick-false _ _ _ (sym q ∙ b)))
+pub ruleset nodes_rules = (first-none, nodes-found, nodes-more, nodes-done)

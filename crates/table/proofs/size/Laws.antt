@@ -15,20 +15,6 @@ use Rattle.table.specs.declared.Unit.TheVariants.{Bit, Slot}
 use Rattle.table.specs.Node.{nodes}
 use Rattle.table.specs.Size.{size_of, node_size, offset_of, size_sum, offset_step, offsets_into, Offsets}
 
--- the paths of `size_of`
-module _ (u : Unit) (n w v r : ℕ) where
-  pub bit-memory : u ≡ Bit → v ≡ 0 → r ≡ n * w → r ≡ size_of u n w v
-  bit-memory e z q = rw e (q ∙ sym (pick_true _ _ _ (eq-eqb v 0 z)))
-
-  pub bit_word : u ≡ Bit → (v ≡ 0 → ⊥) → r ≡ v → r ≡ size_of u n w v
-  bit_word e z q = rw e (q ∙ sym (pick-false _ _ _ (ne_eqb v 0 z)))
-
-  pub slot-memory : u ≡ Slot → v ≡ 0 → r ≡ n → r ≡ size_of u n w v
-  slot-memory e z q = rw e (q ∙ sym (pick_true _ _ _ (eq-eqb v 0 z)))
-
-  pub slot-word : u ≡ Slot → (v ≡ 0 → ⊥) → r ≡ 1 → r ≡ size_of u n w v
-  slot-word e z q = rw e (q ∙ sym (pick-false _ _ _ (ne_eqb v 0 z)))
-
 -- a sum grows by one term
 module _ (f : ℕ → ℕ) where
   pub sum-none : (s : ℕ) → s ≡ s + sum 0 f
@@ -38,9 +24,6 @@ module _ (f : ℕ → ℕ) where
   pub sum_more : (s x r i : ℕ) → x ≡ s + sum i f → r ≡ f i → x + r ≡ s + sum (i + 1) f
   unfolding sum
   sum_more s x r i e q = rw (add-one, e, q) (omega arith)
-
-  pub sum_done : (s x i n : ℕ) → n ≤ i → i ≤ n → x ≡ s + sum i f → x ≡ s + sum n f
-  sum_done s x i n h k e = let q : n ≡ i = omega arith in rw q e
 
 step-mono : (f : ℕ → ℕ) (i m : ℕ) → i ≤ suc m → (i ≤ m → sum i f ≤ sum m f) → Dec (i < suc m) → sum i f ≤ sum (suc m) f
 unfolding sum

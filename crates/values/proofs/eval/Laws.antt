@@ -1,17 +1,16 @@
 -- The word evaluator, path by path.
-use Rattle.std.proofs.Common.{◌≡◌, ℕ, ◌+◌, ◌<◌, ◌≤◌, Bool, true, false, List, length, Option, Some, None, Ok, Err, get_or, sym, ap, ◌∙◌, arith, le-ltb, lt-ltb}
+use Rattle.std.proofs.Common.{◌≡◌, ℕ, ◌+◌, ◌<◌, ◌≤◌, Bool, true, false, List, length, Option, Some, None, Ok, Err, sym, ap, ◌∙◌, arith, le-ltb, lt-ltb}
 use Rattle.loops.specs.Loop.{pick, first, found, iter}
 use Rattle.loops.proofs.Search.{some_first, none_first}
 use Rattle.loops.proofs.Loop.{pick_true, pick-false}
 use Rattle.table.specs.declared.Node.{Node}
 use Rattle.table.specs.declared.Unit.TheVariants.{Slot}
-use Rattle.table.specs.Node.{nodes, node_at, given, width_of, a_of, b_of, c_of, Fine}
-use Rattle.table.specs.Size.{size_of, node_size, Offsets}
+use Rattle.table.specs.Node.{nodes, node_at, given, width_of, a_of, b_of, c_of}
+use Rattle.table.specs.Size.{size_of, node_size}
 use Rattle.table.proofs.size.Laws.{size_room}
-use Rattle.values.proofs.slot.Laws.{operands-in}
 use Rattle.values.specs.declared.Refusal.TheVariants.{ValueRoom, Input}
 use Rattle.values.specs.Value.{place_at}
-use Rattle.values.specs.Eval.{Ready, slots, offset, total, input_bad, slot_step, node_step, run, eval_clear}
+use Rattle.values.specs.Eval.{slots, offset, total, input_bad, slot_step, node_step, run, eval_clear}
 
 module _ (t l vals : List ℕ) (i : ℕ) (d : Node) (r : Bool) (e : d ≡ node_at t (i + 1)) (g : r ≡ given d) where
   is-given : given (node_at t (i + 1)) ≡ r

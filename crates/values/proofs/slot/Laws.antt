@@ -1,16 +1,11 @@
 -- A slot of a node, path by path.
-use Rattle.std.proofs.Common.{◌≡◌, ℕ, zero, suc, ◌+◌, ◌-◌, ◌*◌, ◌<◌, ◌≤◌, Bool, true, false, not, eqb, List, length, get_or, sym, ap, ◌∙◌, arith, eq-eqb, ne_eqb}
-use lib.ListN.{get_or-eq_default}
-use borrow.Author.Tests.{not-true, not-false}
-use Rattle.loops.specs.Loop.{pick, first, sum}
-use Rattle.loops.proofs.Loop.{by-pick, pick_true, pick-false}
+use Rattle.std.proofs.Common.{◌≡◌, ℕ, zero, suc, ◌+◌, ◌-◌, ◌*◌, ◌<◌, ◌≤◌, eqb, List, length, get_or, arith}
+use Rattle.loops.specs.Loop.{sum}
+use Rattle.loops.proofs.Loop.{by-pick}
 use Rattle.table.specs.declared.Node.{Node}
 use Rattle.table.specs.declared.Unit.TheVariants.{Slot}
-use Rattle.table.specs.Kind.{STATE, ITE, READ, WRITE, accesses}
 use Rattle.table.specs.Node.{nodes, node_at, width_of, Fine}
-use Rattle.table.specs.Sheet.{is_at}
 use Rattle.table.specs.Size.{size_of, node_size, offset_of, Offsets}
-use Rattle.values.specs.Value.{listed, read_value, write_value, ite_value, word_value, place_at, slot_at}
 
 -- few slots, and no far offsets
 pub slots-most : (n v : ℕ) → n ≤ 64 → size_of Slot n 0 v ≤ 64

@@ -1,12 +1,7 @@
 use Prim.Native.Nat.{◌+◌}
 use mathlib.Core.Path.{ap}
 use native.Mathlib.Omega.{arith}
-use Rattle.table.specs.Ceiling.{node_constraints}
 use Rattle.table.proofs.ceiling.node_constraints.Goals as goal
 
 pub constraint_ceiling-requires : goal.constraint_ceiling-requires
 constraint_ceiling-requires c = omega (arith, ap (λ d. d.width) c.node_at.ensures, c.requires.1 (c.args.i + 1))
-
-pub returns : goal.returns
-unfolding node_constraints
-returns c = (cc, omega arith)

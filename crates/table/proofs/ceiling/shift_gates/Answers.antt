@@ -1,5 +1,4 @@
 use native.Mathlib.Omega.{arith}
-use Rattle.table.specs.Ceiling.{shift_gates}
 use Rattle.digits.proofs.Numbers.{powers-few}
 use Rattle.table.proofs.ceiling.shift_gates.Goals as goal
 
@@ -8,7 +7,3 @@ times-requires c = omega (arith, c.powers_below-s.ensures, powers-few c.args.v)
 
 pub overflow_sub-times : goal.overflow_sub-times
 overflow_sub-times c = omega (arith, c.powers_below-s.ensures, powers-few c.args.v)
-
-pub returns : goal.returns
-unfolding shift_gates
-returns c = (cc, omega arith)

@@ -1,5 +1,5 @@
 use mathlib.Core.Path.{◌≡◌}
-use Prim.Native.Nat.{◌+◌, ◌*◌, ◌≤◌, ◌-◌}
+use Prim.Native.Nat.{◌+◌, ◌*◌, ◌≤◌}
 use Rattle.loops.specs.Loop.{sum}
 use Rattle.table.specs.declared.Unit.TheVariants.{Bit}
 use Rattle.table.specs.Size.{node_size}

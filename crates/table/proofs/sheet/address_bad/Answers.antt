@@ -1,4 +1,3 @@
-use borrow.Author.Rules.{rules}
 use Rattle.table.proofs.sheet.Laws.{address-path}
 use Rattle.table.proofs.sheet.address_bad.Goals as goal
 

@@ -1,11 +1,6 @@
 use Prim.Native.Nat.{◌+◌}
 use native.Mathlib.Omega.{arith}
-use Rattle.table.specs.Size.{node_size}
 use Rattle.table.proofs.size.node_size.Goals as goal
 
 pub size_of-requires : goal.size_of-requires
 size_of-requires c = omega (arith, c.width_at.ensures, c.requires.3 (c.args.i + 1), c.requires)
-
-pub returns : goal.returns
-unfolding node_size
-returns c = (cc, omega arith)

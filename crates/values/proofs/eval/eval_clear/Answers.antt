@@ -1,4 +1,4 @@
-use Rattle.std.proofs.Common.{arith, rules, sym, ◌∙◌}
+use Rattle.std.proofs.Common.{arith, sym, ◌∙◌}
 use Rattle.table.proofs.size.Laws.{stored}
 use Rattle.loops.proofs.Search.{some_first}
 use Rattle.values.proofs.eval.Laws.{clear_room, clear-input, clear-done}

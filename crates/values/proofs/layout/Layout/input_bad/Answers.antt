@@ -1,8 +1,7 @@
-use Rattle.std.proofs.Common.{◌+◌, arith, rules, tests, ap, refl, ◌∙◌}
+use Rattle.std.proofs.Common.{rules, tests, ap, refl, ◌∙◌}
 use mathlib.Core.Bool.{not}
 use Rattle.table.proofs.Any.{by_any}
 use Rattle.values.specs.Eval.{slot_bad}
-use Rattle.values.proofs.slot.Laws.{operands-in}
 use Rattle.values.proofs.input.Laws.{input_none, input-path}
 use Rattle.values.proofs.layout.Layout.input_bad.Goals as goal
 

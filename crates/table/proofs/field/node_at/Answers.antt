@@ -1,4 +1,0 @@
-use Rattle.table.proofs.field.node_at.Goals as goal
-
-pub returns : goal.returns
-returns c = cc
