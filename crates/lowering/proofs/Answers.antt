@@ -22,7 +22,7 @@ use Rattle.visits.proofs.Small.{net-invariant, start-net}
 use Rattle.lowering.specs.declared.lower.Refusal.TheVariants.{NothingAsked}
 use Rattle.nodes.specs.Source.{Source}
 use Rattle.nodes.specs.Recipe.{recipe}
-use Rattle.lowering.specs.Lower.{Answer, done, Run, run, start, lowered, lower_asked, lower_all, Accepted}
+use Rattle.lowering.specs.Lower.{Answer, counted, Run, run, start, lowered, lower_asked, lower_all, Accepted}
 use Rattle.nodes.proofs.ShapeLaws.{shape}
 use Rattle.lowering.proofs.StartLaws.{starts}
 use Rattle.lowering.proofs.VisitFacts.{own-steps}
@@ -50,7 +50,7 @@ module _ (S : Source) (g c m : List ℕ) where
     fit : Fit (recipe S) 0 0 (lowered S g c)
     fit = fit-later (start-fit begun) later
 
-  pub made : (n k : ℕ) (a : Answer) (g' c' m' : List ℕ) → run a g' c' m' ≡ lower_all S g c m → a ≡ Ok (done n k) → Made S g c m n k
+  pub made : (n k : ℕ) (a : Answer) (g' c' m' : List ℕ) → run a g' c' m' ≡ lower_all S g c m → a ≡ Ok (counted n k) → Made S g c m n k
   made n k a g' c' m' e h =
       let f : Finished S g c m n k (run a g' c' m') = subst (λ (r : Run). Ends S g c m n k r) (sym e) (finished S g c m n k) h in
       let l = later f.accepted in

@@ -22,7 +22,7 @@ use Rattle.lowering.specs.declared.lower.Refusal.TheVariants.{Table}
 use Rattle.nodes.specs.Source.{Source, total_of, gates_of}
 use Rattle.nodes.specs.Own.{own_step}
 use Rattle.nodes.specs.Recipe.{recipe}
-use Rattle.lowering.specs.Lower.{Answer, done, Run, run, start, lowered, sums, con_records, ended, lower_clear, lower_asked, lower_all, Accepted, number}
+use Rattle.lowering.specs.Lower.{Answer, counted, Run, run, start, lowered, sums, con_records, ended, lower_clear, lower_asked, lower_all, Accepted, number}
 use Rattle.nodes.specs.Meaning.{meaning}
 use Rattle.lowering.specs.Promise.{said, Right, Promise}
 use Rattle.nodes.proofs.ShapeLaws.{shape}
@@ -41,14 +41,23 @@ pub record Finished (S : Source) (g c m : List ℕ) (n k : ℕ) (r : Run) : Type
   pub cons : r.cons ≡ (lowered S g c).core.cons
   pub map : r.map ≡ (lowered S g c).core.map ++ drop (total_of S) m
 
+-- the counts of an answer
+gates_in : Answer → ℕ
+gates_in (Ok d) = d.gates
+gates_in (Err e) = 0
+
+constraints_in : Answer → ℕ
+constraints_in (Ok d) = d.constraints
+constraints_in (Err e) = 0
+
 module _ (S : Source) (g c m : List ℕ) (n k : ℕ) where
   abbrev pub Ends : Run → Type 0
-  Ends r = r.answer ≡ Ok (done n k) → Finished S g c m n k r
+  Ends r = r.answer ≡ Ok (counted n k) → Finished S g c m n k r
 
   finished-end : Accepted S g c m → Ends (ended S m (lowered S g c))
-  unfolding ended
+  unfolding ended gates_in constraints_in
   finished-end a e =
-      record { accepted = a; count = cc; asks = cc; gates = refl; cons = refl; map = refl }
+      record { accepted = a; count = ap gates_in e; asks = ap constraints_in e; gates = refl; cons = refl; map = refl }
 
   finished-clear : table_fault S.table S.addrs S.word ≡ Ok tt → asks S.table ≡ true → Ends (lower_clear S g c m)
   unfolding lower_clear
@@ -126,5 +135,5 @@ promise S g c m a g' c' m' e =
           };
     }
   where
-    held : (n k : ℕ) → a ≡ Ok (done n k) → Finished S g c m n k (run a g' c' m')
+    held : (n k : ℕ) → a ≡ Ok (counted n k) → Finished S g c m n k (run a g' c' m')
     held n k h = subst (λ (r : Run). Ends S g c m n k r) (sym e) (finished S g c m n k) h

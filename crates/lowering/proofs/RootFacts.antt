@@ -15,8 +15,10 @@ use Rattle.visits.specs.Flow.{Low, root_step, lower_to}
 use Rattle.visits.specs.Claims.{Start, left}
 use Rattle.visits.proofs.Roots.{start_left, start-fit}
 use Rattle.division.specs.declared.lists.Lists.{Lists}
-use Rattle.division.specs.Constraint.{cons_of}
-use Rattle.division.specs.Check.{Book, book_of}
+use Rattle.division.specs.Constraint.{Cons, cons_of, cons_in}
+use Rattle.gates.specs.declared.list.GateList.{GateList}
+use Rattle.gates.specs.Made.{MadeBit, net_of, made_of, added}
+use Rattle.netlist.specs.Net.{Net}
 use Rattle.nodes.specs.Source.{Source, node_of, gates_of, total_of}
 use Rattle.nodes.specs.Recipe.{recipe}
 use Rattle.lowering.specs.Lower.{start, UNREACHED}
@@ -48,24 +50,29 @@ pub all-roots : (S : Source) (s t : Low) (i : ℕ) → i ≤ nodes S.table + 1 �
 unfolding lower_to
 all-roots S s t i le ge e = let q : i ≡ nodes S.table + 1 = omega arith in rw q at e
 
+-- the two constants
+abbrev pub constants : List ℕ → Net
+constants g = record { gates = put (put g 0 (gate 0 0 0 0)) 1 (gate 1 0 0 0); n = 2 }
+
+pub two-constants : (g : List ℕ) (l1 l2 : GateList) (b1 b2 : ℕ) → made_of l1 b1 ≡ added (record { gates = g; n = 0 }) (gate 0 0 0 0) → made_of l2 b2 ≡ added (net_of l1) (gate 1 0 0 0)
+    → net_of l2 ≡ constants g
+unfolding added
+two-constants g l1 l2 b1 b2 e f = ap (λ (m : MadeBit). m.net) f ∙ ap (λ (m : MadeBit). (added m.net (gate 1 0 0 0)).net) e
+
 -- where it begins: the two lists with the two constants, the map and the marks filled
 module _ (S : Source) (o g c m z : List ℕ) (h : Begins S o g c m z) where
   pub room-two : Room g 2 × (2 < 4294967296)
   room-two = (omega (arith, h.gates, gates-sum S), omega arith)
 
-  module _ (l : Lists) (m1 z1 : List ℕ)
-    (el : book_of l ≡ record { net = record { gates = put (put g 0 (gate 0 0 0 0)) 1 (gate 1 0 0 0); n = 2 }; cons = cons_of c 0 })
-    (em : m1 ≡ replicate (length m) UNREACHED) (ez : z1 ≡ replicate (length z) 0) where
+  module _ (l : Lists) (m1 z1 : List ℕ) (en : net_of l.gates ≡ constants g) (ec : cons_in l.cons ≡ cons_of c 0) (em : m1 ≡ replicate (length m) UNREACHED) (ez : z1 ≡ replicate (length z) 0) where
     pub begin-is : low_of l m1 z1 ≡ start S g c
     unfolding start
-    begin-is = rw (em, ez, h.mapped, h.marked) (ap {B = Low} (λ (b : Book). from_book b) el)
+    begin-is =
+        rw (em, ez, h.mapped, h.marked)
+        (ap {B = Low} (λ (s : Net). from s (cons_in l.cons)) en ∙ ap {B = Low} (λ (k : Cons). from (constants g) k) ec)
       where
-        from_book : Book → Low
-        from_book b =
-            record {
-              core = record { net = b.net; cons = b.cons.list; nc = b.cons.m; map = replicate (total_of S) UNREACHED };
-              seen = replicate (nodes S.table + 1) 0;
-            }
+        from : Net → Cons → Low
+        from s k = record { core = record { net = s; cons = k.list; nc = k.m; map = replicate (total_of S) UNREACHED }; seen = replicate (nodes S.table + 1) 0 }
 
     pub begin-goes : Goes S o 0 0 (low_of l m1 z1)
     begin-goes =

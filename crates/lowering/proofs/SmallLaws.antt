@@ -1,4 +1,5 @@
 -- Demand 3 of the lowering of a table without fault that asks something, with room for the sums: it is done, and what it makes is small and formed.
+use Rattle.std.specs.Prelude.{Ok}
 use mathlib.Core.Path.{◌≡◌, ap, ◌∙◌}
 use mathlib.Core.List.{List}
 use Prim.Native.Nat.{ℕ}
@@ -10,7 +11,7 @@ use Rattle.visits.specs.Claims.{Small}
 use Rattle.visits.proofs.Small as visits
 use Rattle.nodes.specs.Source.{Source}
 use Rattle.nodes.specs.Recipe.{recipe}
-use Rattle.lowering.specs.Lower.{done, start, lowered, sums, con_records, Run, ended, lower_clear, lower_asked, lower_all, Accepted}
+use Rattle.lowering.specs.Lower.{counted, start, lowered, sums, con_records, Run, ended, lower_clear, lower_asked, lower_all, Accepted}
 use Rattle.nodes.proofs.ShapeLaws.{shape}
 use Rattle.lowering.proofs.StartLaws.{starts}
 use Rattle.lowering.proofs.VisitFacts.{own-steps}
@@ -26,7 +27,7 @@ module _ (S : Source) (g c m : List ℕ) (a : Accepted S g c m) where
       ∙ (pick-false _ _ _ (le-ltb (length m) (sums S).map a.map)
       ∙ pick-false _ _ _ (le-ltb (con_records c) (sums S).constraints a.constraints))))
 
-  pub done : (lower_all S g c m).answer ≡ Ok (done (lowered S g c).core.net.n (lowered S g c).core.nc)
+  pub done : (lower_all S g c m).answer ≡ Ok (counted (lowered S g c).core.net.n (lowered S g c).core.nc)
   unfolding ended
   done = ap (λ (r : Run). r.answer) lowers
 

@@ -132,8 +132,8 @@ module _ (S : Source) (o : List ℕ) (k : ℕ) (is : Is (recipe S) k) (d : Node)
             goes3 : Goes S o (gates_of S k) (asks_of S k) s3
             goes3 = goes-visit c goes2 (inside third-less) v3
 
-            pub own-asks : Owns S o k s3.core × (d ≡ node_of S k)
-            own-asks = (record { stands = stands goes3; room = omega (arith, goes3.room); cap = omega (arith, goes3.cap); asks = omega (arith, goes3.asks) }, same)
+            pub own-asks : Owns S o k s3.core
+            own-asks = record { stands = stands goes3; room = omega (arith, goes3.room); cap = omega (arith, goes3.cap); asks = omega (arith, goes3.asks) }
 
             pub entered : (r : Core) → r ≡ own_step S k s3.core → Enters S k s (record { core = r; seen = s3.seen })
             entered r e = λ f le.

@@ -19,8 +19,8 @@ use Rattle.nodes.specs.Recipe.{recipe}
 abbrev pub Answer : Type 0
 Answer = Result Done Refusal
 
-abbrev pub done : ℕ → ℕ → Done
-done n k = record { gates = n; constraints = k }
+abbrev pub counted : ℕ → ℕ → Done
+counted n k = record { gates = n; constraints = k }
 
 -- a refusal's number on the sheet, and the node beside it
 abbrev pub number_of : Refusal → ℕ
@@ -82,7 +82,7 @@ made_low d g c m z = record { core = record { net = record { gates = g; n = d.ga
 
 -- done: beyond the used part the map is as before
 unfoldable pub ended : Source → List ℕ → Low → Run
-ended S m t = run (Ok (done t.core.net.n t.core.nc)) t.core.net.gates t.core.cons (t.core.map ++ drop (total_of S) m)
+ended S m t = run (Ok (counted t.core.net.n t.core.nc)) t.core.net.gates t.core.cons (t.core.map ++ drop (total_of S) m)
 
 -- whole constraints lent
 abbrev pub con_records : List ℕ → ℕ

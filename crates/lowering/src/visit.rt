@@ -10,7 +10,8 @@ ghost use Rattle.lowering.specs.Visit.{Goes, Visits, Enters, low_of};
 
 use division::lists::Lists;
 use nodes::operand::{condition, second, third};
-use nodes::place::Laid;
+use nodes::place::{Here, Laid};
+use table::field::node_at;
 
 // Node k and what it leans on, unless it is none or was seen.
 #[cycle(process_visit)]
@@ -36,12 +37,16 @@ fn process(laid: &Laid, lists: &mut Lists, map: &mut [u32], seen: &mut [u8], k: 
     ensures same { SameLists lists.old lists.new }
     ensures made { Enters (source_of laid.now) k (low_of lists.old map.old seen.old) (low_of lists.new map.new seen.new) }
 {
-    let here = laid.at(k);
-    let node = here.node;
+    let node = node_at(laid.table, k);
     visit(laid, lists, map, seen, node.a as usize);
     let cond1 = condition(laid.offs, map, node);
     visit(laid, lists, map, seen, second(node, cond1));
     let cond2 = condition(laid.offs, map, node);
     visit(laid, lists, map, seen, third(node, cond2));
+    let here = Here {
+        laid: *laid,
+        k,
+        node,
+    };
     here.own_step(lists, map);
 }

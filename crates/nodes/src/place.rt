@@ -7,7 +7,7 @@ ghost use Rattle.nodes.specs.Laid.{source_of};
 ghost use Rattle.nodes.specs.Asked.{place_of};
 
 use table::Node;
-use table::field::{node_at, width_at};
+use table::field::width_at;
 
 // A table, its listed addresses and its word width, and where each node's bits begin.
 #[derive(Clone, Copy)]
@@ -35,18 +35,7 @@ pub struct Place {
     pub wide: usize,
 }
 
-impl<'a> Laid<'a> {
-    pub fn at(&self, k: usize) -> Here<'a>
-        ensures laid { result.laid ≡ self.now }
-        ensures k { result.k ≡ k }
-    {
-        Here {
-            laid: *self,
-            k,
-            node: node_at(self.table, k),
-        }
-    }
-
+impl Laid<'_> {
     // A word is one word, a memory one for each listed address.
     pub fn place_of(&self, x: usize) -> Place
         requires { Offsets Bit self.now.table.now (length self.now.addrs.now) self.now.word self.now.offs.now × (x ≤ nodes self.now.table.now) }

@@ -1,16 +1,26 @@
+use mathlib.Core.Path.{ap, refl}
+use borrow.Author.Rules.{rules}
 use native.Mathlib.Omega.{arith}
+use Rattle.gates.specs.Made.{MadeBit}
+use Rattle.gates.proofs.Paths.{most-added}
 use Rattle.nodes.specs.Laid.{source_of}
-use Rattle.lowering.proofs.RootFacts.{room-two, begin-goes, from_start}
+use Rattle.lowering.proofs.RootFacts.{room-two, two-constants, begin-goes, from_start}
 use Rattle.lowering.proofs.root.lower_roots.Goals as goal
 
 pub append-requires : goal.append-requires
 append-requires c = omega (arith, room-two (source_of c.args.laid.now) c.args.laid.now.offs.now c.args.gates.now c.args.cons.now c.args.map.now c.args.seen.now c.requires)
 
 pub append-requires-2 : goal.append-requires-2
-append-requires-2 c = ?
+append-requires-2 c = omega (arith, ap (λ (m : MadeBit). m.net.n) c.append.ensures.made, most-added, room-two (source_of c.args.laid.now) c.args.laid.now.offs.now c.args.gates.now c.args.cons.now c.args.map.now c.args.seen.now c.requires)
 
 pub roots-requires : goal.roots-requires
-roots-requires c = ?
+roots-requires c =
+    begin-goes (source_of c.args.laid.now) c.args.laid.now.offs.now c.args.gates.now c.args.cons.now c.args.map.now c.args.seen.now c.requires _ _ _
+    (two-constants c.args.gates.now c.append.new.self c.append-2.new.self _ _ c.append.ensures.made c.append-2.ensures.made) refl (search rules) (search rules)
 
 pub returns : goal.returns
-returns c = ?
+returns c =
+    let h =
+    from_start (source_of c.args.laid.now) c.args.laid.now.offs.now c.args.gates.now c.args.cons.now c.args.map.now c.args.seen.now c.requires _ _ _
+    (two-constants c.args.gates.now c.append.new.self c.append-2.new.self _ _ c.append.ensures.made c.append-2.ensures.made) refl (search rules) (search rules) _ c.roots.ensures.made in
+    search (rules, h)

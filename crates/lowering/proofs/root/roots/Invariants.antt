@@ -13,7 +13,7 @@ use Rattle.lowering.proofs.root.roots.Given as goal
 abbrev pub invariant-loop-k : goal.invariant-loop-k
 invariant-loop-k l = record {
   same : SameLists l.initial.lists l.lists;
-  marks : length l.initial.seen ≡ nodes l.laid.table + 1;
-  goes : Goes (source_of l.laid) l.laid.offs 0 0 (low_of l.lists l.map l.seen);
+  marks : length l.initial.seen ≡ nodes l.laid.table.now + 1;
+  goes : Goes (source_of l.laid) l.laid.offs.now 0 0 (low_of l.lists l.map l.seen);
   made : low_of l.lists l.map l.seen ≡ iter l.k (root_step (recipe (source_of l.laid))) (low_of l.initial.lists l.initial.map l.initial.seen);
 }

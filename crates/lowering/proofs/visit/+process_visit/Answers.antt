@@ -8,25 +8,25 @@ use Rattle.visits.proofs.Paths.{visit-none, visit-seen, visit-goes}
 use Rattle.lowering.proofs.visit.+process_visit.Goals as goal
 
 pub process-visit-requires : goal.process-visit-requires
-process-visit-requires t c = (omega (arith, first-less (source_of c.args.laid.now) c.args.laid.now.offs.now c.args.k c.requires.1 _ (here-is c) _ c.requires.0), first-asks (source_of c.args.laid.now) c.args.laid.now.offs.now c.args.k c.requires.1 _ (here-is c) _ c.requires.0)
+process-visit-requires t c = (omega (arith, first-less (source_of c.args.laid.now) c.args.laid.now.offs.now c.args.k c.requires.1 _ c.node_at-node.ensures _ c.requires.0), first-asks (source_of c.args.laid.now) c.args.laid.now.offs.now c.args.k c.requires.1 _ c.node_at-node.ensures _ c.requires.0)
 
 pub process-condition-cond1-requires : goal.process-condition-cond1-requires
-process-condition-cond1-requires t c = cond-asks1 (source_of c.args.laid.now) c.args.laid.now.offs.now c.args.k c.requires.1 _ (here-is c) _ c.requires.0 _ c.visit.ensures.made
+process-condition-cond1-requires t c = cond-asks1 (source_of c.args.laid.now) c.args.laid.now.offs.now c.args.k c.requires.1 _ c.node_at-node.ensures _ c.requires.0 _ c.visit.ensures.made
 
 pub process-visit-requires-2 : goal.process-visit-requires-2
-process-visit-requires-2 t c = (omega (arith, second-less (source_of c.args.laid.now) c.args.laid.now.offs.now c.args.k c.requires.1 _ (here-is c) _ c.requires.0 _ c.visit.ensures.made _ c.condition-cond1.ensures _ c.second.ensures), second-asks (source_of c.args.laid.now) c.args.laid.now.offs.now c.args.k c.requires.1 _ (here-is c) _ c.requires.0 _ c.visit.ensures.made _ c.condition-cond1.ensures _ c.second.ensures)
+process-visit-requires-2 t c = (omega (arith, second-less (source_of c.args.laid.now) c.args.laid.now.offs.now c.args.k c.requires.1 _ c.node_at-node.ensures _ c.requires.0 _ c.visit.ensures.made _ c.condition-cond1.ensures _ c.second.ensures), second-asks (source_of c.args.laid.now) c.args.laid.now.offs.now c.args.k c.requires.1 _ c.node_at-node.ensures _ c.requires.0 _ c.visit.ensures.made _ c.condition-cond1.ensures _ c.second.ensures)
 
 pub process-condition-cond2-requires : goal.process-condition-cond2-requires
-process-condition-cond2-requires t c = cond-asks2 (source_of c.args.laid.now) c.args.laid.now.offs.now c.args.k c.requires.1 _ (here-is c) _ c.requires.0 _ c.visit.ensures.made _ c.condition-cond1.ensures _ c.second.ensures _ c.visit-2.ensures.made
+process-condition-cond2-requires t c = cond-asks2 (source_of c.args.laid.now) c.args.laid.now.offs.now c.args.k c.requires.1 _ c.node_at-node.ensures _ c.requires.0 _ c.visit.ensures.made _ c.condition-cond1.ensures _ c.second.ensures _ c.visit-2.ensures.made
 
 pub process-visit-requires-3 : goal.process-visit-requires-3
-process-visit-requires-3 t c = (omega (arith, third-less (source_of c.args.laid.now) c.args.laid.now.offs.now c.args.k c.requires.1 _ (here-is c) _ c.requires.0 _ c.visit.ensures.made _ c.condition-cond1.ensures _ c.second.ensures _ c.visit-2.ensures.made _ c.condition-cond2.ensures _ c.third.ensures), third-asks (source_of c.args.laid.now) c.args.laid.now.offs.now c.args.k c.requires.1 _ (here-is c) _ c.requires.0 _ c.visit.ensures.made _ c.condition-cond1.ensures _ c.second.ensures _ c.visit-2.ensures.made _ c.condition-cond2.ensures _ c.third.ensures)
+process-visit-requires-3 t c = (omega (arith, third-less (source_of c.args.laid.now) c.args.laid.now.offs.now c.args.k c.requires.1 _ c.node_at-node.ensures _ c.requires.0 _ c.visit.ensures.made _ c.condition-cond1.ensures _ c.second.ensures _ c.visit-2.ensures.made _ c.condition-cond2.ensures _ c.third.ensures), third-asks (source_of c.args.laid.now) c.args.laid.now.offs.now c.args.k c.requires.1 _ c.node_at-node.ensures _ c.requires.0 _ c.visit.ensures.made _ c.condition-cond1.ensures _ c.second.ensures _ c.visit-2.ensures.made _ c.condition-cond2.ensures _ c.third.ensures)
 
 pub process-own_step-requires : goal.process-own_step-requires
-process-own_step-requires t c = own-asks (source_of c.args.laid.now) c.args.laid.now.offs.now c.args.k c.requires.1 _ (here-is c) _ c.requires.0 _ c.visit.ensures.made _ c.condition-cond1.ensures _ c.second.ensures _ c.visit-2.ensures.made _ c.condition-cond2.ensures _ c.third.ensures _ c.visit-3.ensures.made
+process-own_step-requires t c = own-asks (source_of c.args.laid.now) c.args.laid.now.offs.now c.args.k c.requires.1 _ c.node_at-node.ensures _ c.requires.0 _ c.visit.ensures.made _ c.condition-cond1.ensures _ c.second.ensures _ c.visit-2.ensures.made _ c.condition-cond2.ensures _ c.third.ensures _ c.visit-3.ensures.made
 
 pub process-returns-clause-made : goal.process-returns-clause-made
-process-returns-clause-made t c = entered (source_of c.args.laid.now) c.args.laid.now.offs.now c.args.k c.requires.1 _ (here-is c) _ c.requires.0 _ c.visit.ensures.made _ c.condition-cond1.ensures _ c.second.ensures _ c.visit-2.ensures.made _ c.condition-cond2.ensures _ c.third.ensures _ c.visit-3.ensures.made _ c.own_step.ensures.made
+process-returns-clause-made t c = entered (source_of c.args.laid.now) c.args.laid.now.offs.now c.args.k c.requires.1 _ c.node_at-node.ensures _ c.requires.0 _ c.visit.ensures.made _ c.condition-cond1.ensures _ c.second.ensures _ c.visit-2.ensures.made _ c.condition-cond2.ensures _ c.third.ensures _ c.visit-3.ensures.made _ c.own_step.ensures.made
 
 pub visit-returns-then-k-eq0-clause-made : goal.visit-returns-then-k-eq0-clause-made
 visit-returns-then-k-eq0-clause-made t c = λ f lt. visit-none (recipe (source_of c.args.laid.now)) c.args.k f (low_of c.args.lists.now c.args.map.now c.args.seen.now) c.if-k-eq0.true
