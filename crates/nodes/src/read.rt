@@ -37,6 +37,7 @@ pub fn read_at(
 
 impl Here<'_> {
     // The own step of a read.
+    #[tactic(auto, using(crate::proofs::MemoryFacts::read_steps))]
     pub fn read_node(&self, list: &mut GateList, map: &mut [u32])
         requires { Makes (source_of self.now.laid) self.now.laid.offs.now list.old (length map.old) self.now.k × (self.now.node.kind ≡ READ) }
         ensures same { SameList list.old list.new }
