@@ -89,6 +89,9 @@ module _ (n : Here) (l : Lists) (m : List ℕ) (h : Owns (source_of n.laid) n.la
   abbrev S : Source
   S = source_of n.laid
 
+  abbrev o : List ℕ
+  o = n.laid.offs.now
+
   abbrev k : ℕ
   k = n.k
 
@@ -112,18 +115,18 @@ module _ (n : Here) (l : Lists) (m : List ℕ) (h : Owns (source_of n.laid) n.la
           core_at y.net y.cons.list y.cons.m (put_bits (off_of S k) y.out (wide_of S k) s.map)
 
   -- its operands are nodes of the table
-  pub a-inside : n.node.a < length n.laid.offs.now
-  a-inside = omega (arith, operands-in S n.laid.offs.now (length s.map) k h.stands n.node n.is)
+  pub a-inside : n.node.a < length o
+  a-inside = omega (arith, operands-in S o (length s.map) k h.stands n.node n.is)
 
-  pub b-inside : n.node.b < length n.laid.offs.now
-  b-inside = omega (arith, operands-in S n.laid.offs.now (length s.map) k h.stands n.node n.is)
+  pub b-inside : n.node.b < length o
+  b-inside = omega (arith, operands-in S o (length s.map) k h.stands n.node n.is)
 
   module _ (e : divides n.node.kind ≡ true) (p : Place) (q : p ≡ place_of S k) where
     kind : divides (node_of S k).kind ≡ true
     kind = ap (λ (x : Node). divides x.kind) (sym n.is) ∙ e
 
     there : Sides S (length s.map) k
-    there = sides S n.laid.offs.now (length s.map) k h.stands kind
+    there = sides S o (length s.map) k h.stands kind
 
     all-asks : Asks s (off_of S (node_of S k).a) (off_of S (node_of S k).b) (place_of S k)
     all-asks =
@@ -139,16 +142,16 @@ module _ (n : Here) (l : Lists) (m : List ℕ) (h : Owns (source_of n.laid) n.la
           within = there.own_in;
         }
 
-    at_of : (x : ℕ) → x < k → get_or n.laid.offs.now x 0 ≡ off_of S x
-    at_of x less = (offset S n.laid.offs.now (length s.map) k h.stands x (omega arith)).1
+    at_of : (x : ℕ) → x < k → get_or o x 0 ≡ off_of S x
+    at_of x less = (offset S o (length s.map) k h.stands x (omega arith)).1
 
-    left_at : get_or n.laid.offs.now n.node.a 0 ≡ off_of S (node_of S k).a
-    left_at = ap (λ (d : Node). get_or n.laid.offs.now d.a 0) n.is ∙ at_of (node_of S k).a ((node S n.laid.offs.now (length s.map) k h.stands).operands.a)
+    left_at : get_or o n.node.a 0 ≡ off_of S (node_of S k).a
+    left_at = ap (λ (d : Node). get_or o d.a 0) n.is ∙ at_of (node_of S k).a ((node S o (length s.map) k h.stands).operands.a)
 
-    right-at : get_or n.laid.offs.now n.node.b 0 ≡ off_of S (node_of S k).b
-    right-at = ap (λ (d : Node). get_or n.laid.offs.now d.b 0) n.is ∙ at_of (node_of S k).b ((node S n.laid.offs.now (length s.map) k h.stands).operands.b)
+    right-at : get_or o n.node.b 0 ≡ off_of S (node_of S k).b
+    right-at = ap (λ (d : Node). get_or o d.b 0) n.is ∙ at_of (node_of S k).b ((node S o (length s.map) k h.stands).operands.b)
 
-    divide-asks : Asks s (get_or n.laid.offs.now n.node.a 0) (get_or n.laid.offs.now n.node.b 0) p
+    divide-asks : Asks s (get_or o n.node.a 0) (get_or o n.node.b 0) p
     divide-asks = rw (q, left_at, right-at) all-asks
 
     pub divide-room : Room s.net.gates (s.net.n + divide_cost p.wide) × (s.net.n + divide_cost p.wide < 4294967296)
@@ -157,13 +160,16 @@ module _ (n : Here) (l : Lists) (m : List ℕ) (h : Owns (source_of n.laid) n.la
     pub divide-cons : con_used (s.nc + con_count p.wide) ≤ length s.cons
     divide-cons = divide-asks.asks
 
-    pub divide-within : (1 ≤ p.wide) × (p.wide ≤ 64) × (get_or n.laid.offs.now n.node.a 0 + p.wide ≤ length s.map) × (get_or n.laid.offs.now n.node.b 0 + p.wide ≤ length s.map)
+    pub divide-within : (1 ≤ p.wide) × (p.wide ≤ 64) × (get_or o n.node.a 0 + p.wide ≤ length s.map) × (get_or o n.node.b 0 + p.wide ≤ length s.map)
         × (p.off + p.wide ≤ length s.map)
     divide-within = let h = divide-asks in (h.some, h.small, h.left-within, h.right-within, h.within)
 
-    pub divide-turn : (t : Core) → checked t ≡ divide_at (eqb n.node.kind DIVU) k p.wide (get_or n.laid.offs.now n.node.a 0) (get_or n.laid.offs.now n.node.b 0) p.off (checked s) → t ≡ divide_own S k s
-    unfolding put_back
-    divide-turn t u = ap put_back (rw (q, left_at, right-at) at (u ∙ ap (λ (d : Node). divide_at (eqb d.kind DIVU) k p.wide (get_or n.laid.offs.now n.node.a 0) (get_or n.laid.offs.now n.node.b 0) p.off (checked s)) n.is)) ∙ divide-along there
+    divided-as : Node → Checked
+    divided-as d = divide_at (eqb d.kind DIVU) k p.wide (get_or o n.node.a 0) (get_or o n.node.b 0) p.off (checked s)
+
+    pub divide-turn : (t : Core) → checked t ≡ divide_at (eqb n.node.kind DIVU) k p.wide (get_or o n.node.a 0) (get_or o n.node.b 0) p.off (checked s) → t ≡ divide_own S k s
+    unfolding put_back divided-as
+    divide-turn t u = ap put_back (rw (q, left_at, right-at) at (u ∙ ap divided-as n.is)) ∙ divide-along there
 
 -- what `grind` has to know in a division's own step
 pub ruleset divide_steps = (node-small, a-inside, b-inside, divide-room, divide-cons, divide-within)

@@ -104,6 +104,9 @@ module _ (n : Here) (t : GateList) (long : ℕ) (h : Makes (source_of n.laid) n.
   abbrev S : Source
   S = source_of n.laid
 
+  abbrev o : List ℕ
+  o = n.laid.offs.now
+
   abbrev k : ℕ
   k = n.k
 
@@ -119,13 +122,13 @@ module _ (n : Here) (t : GateList) (long : ℕ) (h : Makes (source_of n.laid) n.
 
   -- a memory and a word of a memory lie within the map
   memory-in : (x : ℕ) → 1 ≤ x → x ≤ k → width_of S.table x ≡ 0 → off_of S x + listed S * S.word ≤ long
-  memory-in x some le v = rw (memory-words S x v, memory-wide S x v) at (place-within S n.laid.offs.now long k x h.stands some le)
+  memory-in x some le v = rw (memory-words S x v, memory-wide S x v) at (place-within S o long k x h.stands some le)
 
   wide_is : (x : ℕ) → width_of S.table x ≡ S.word → wide_of S x ≡ S.word
   wide_is x v = word_wide S x (omega (arith, range)) ∙ v
 
   operand_in : (x : ℕ) → 1 ≤ x → x ≤ k → width_of S.table x ≡ S.word → off_of S x + S.word ≤ long
-  operand_in x some le v = omega (arith, word_in S n.laid.offs.now long k x h.stands some le (omega (arith, range)), wide_is x v)
+  operand_in x some le v = omega (arith, word_in S o long k x h.stands some le (omega (arith, range)), wide_is x v)
 
   operand_at : (m : List ℕ) (x : ℕ) → width_of S.table x ≡ S.word → take S.word (drop (off_of S x) m) ≡ word_at S m x 0
   operand_at m x v = ap (λ (w : ℕ). take w (drop (off_of S x) m)) (sym (wide_is x v)) ∙ part-first S m x
@@ -146,42 +149,42 @@ module _ (n : Here) (t : GateList) (long : ℕ) (h : Makes (source_of n.laid) n.
   is-as x e = ap (λ (y : Node). y.kind) (sym n.is) ∙ e
 
   -- its operands are nodes of the table
-  pub a-inside : n.node.a < length n.laid.offs.now
-  a-inside = omega (arith, operands-in S n.laid.offs.now long k h.stands n.node n.is)
+  pub a-inside : n.node.a < length o
+  a-inside = omega (arith, operands-in S o long k h.stands n.node n.is)
 
-  pub b-inside : n.node.b < length n.laid.offs.now
-  b-inside = omega (arith, operands-in S n.laid.offs.now long k h.stands n.node n.is)
+  pub b-inside : n.node.b < length o
+  b-inside = omega (arith, operands-in S o long k h.stands n.node n.is)
 
-  pub c-inside : n.node.c < length n.laid.offs.now
-  c-inside = omega (arith, operands-in S n.laid.offs.now long k h.stands n.node n.is)
+  pub c-inside : n.node.c < length o
+  c-inside = omega (arith, operands-in S o long k h.stands n.node n.is)
 
   -- where the operands stand
-  a_at : get_or n.laid.offs.now n.node.a 0 ≡ off_of S (node_of S k).a
-  a_at = ap (λ (d : Node). get_or n.laid.offs.now d.a 0) n.is ∙ (offset S n.laid.offs.now long k h.stands (node_of S k).a (omega (arith, node.operands.a))).1
+  a_at : get_or o n.node.a 0 ≡ off_of S (node_of S k).a
+  a_at = ap (λ (d : Node). get_or o d.a 0) n.is ∙ (offset S o long k h.stands (node_of S k).a (omega (arith, node.operands.a))).1
 
-  b_at : get_or n.laid.offs.now n.node.b 0 ≡ off_of S (node_of S k).b
-  b_at = ap (λ (d : Node). get_or n.laid.offs.now d.b 0) n.is ∙ (offset S n.laid.offs.now long k h.stands (node_of S k).b (omega (arith, node.operands.b))).1
+  b_at : get_or o n.node.b 0 ≡ off_of S (node_of S k).b
+  b_at = ap (λ (d : Node). get_or o d.b 0) n.is ∙ (offset S o long k h.stands (node_of S k).b (omega (arith, node.operands.b))).1
 
-  c-at : get_or n.laid.offs.now n.node.c 0 ≡ off_of S (node_of S k).c
-  c-at = ap (λ (d : Node). get_or n.laid.offs.now d.c 0) n.is ∙ (offset S n.laid.offs.now long k h.stands (node_of S k).c (omega (arith, node.operands.c))).1
+  c-at : get_or o n.node.c 0 ≡ off_of S (node_of S k).c
+  c-at = ap (λ (d : Node). get_or o d.c 0) n.is ∙ (offset S o long k h.stands (node_of S k).c (omega (arith, node.operands.c))).1
 
   -- a read
   module _ (e : n.node.kind ≡ READ) (p : Place) (q : p ≡ place_of S k) where
     rule : ((node_of S k).width ≡ S.word) × (width_of S.table (node_of S k).a ≡ 0) × (width_of S.table (node_of S k).b ≡ S.word)
     rule = sorts.reads (is-as READ e)
 
-    read-asks : Accesses 4 t long (listed S) (get_or n.laid.offs.now n.node.a 0) (get_or n.laid.offs.now n.node.b 0) p × (p.off + p.wide ≤ long)
+    read-asks : Accesses 4 t long (listed S) (get_or o n.node.a 0) (get_or o n.node.b 0) p × (p.off + p.wide ≤ long)
     read-asks =
         rw (q, a_at, b_at) (
           accesses 4 (read-gates S k h.stands.is.low (is-as READ e)) (wide_is k rule.0) (ap uses_a (is-as READ e)) (ap uses_b (is-as READ e)) rule.1 rule.2,
-          word_in S n.laid.offs.now long k k h.stands h.stands.is.low (omega arith) (omega (arith, range, rule.0)),
+          word_in S o long k k h.stands h.stands.is.low (omega arith) (omega (arith, range, rule.0)),
         )
 
     pub read-room : Fits t (length n.laid.addrs.now * (4 * p.wide - 1))
     read-room = read-asks.0.room
 
-    pub read-within : (1 ≤ p.wide) × (p.wide ≤ 64) × (get_or n.laid.offs.now n.node.a 0 + length n.laid.addrs.now * p.wide ≤ long)
-        × (get_or n.laid.offs.now n.node.b 0 + p.wide ≤ long) × (p.off + p.wide ≤ long)
+    pub read-within : (1 ≤ p.wide) × (p.wide ≤ 64) × (get_or o n.node.a 0 + length n.laid.addrs.now * p.wide ≤ long)
+        × (get_or o n.node.b 0 + p.wide ≤ long) × (p.off + p.wide ≤ long)
     read-within = let h = read-asks in (h.0.some, h.0.small, h.0.mem-within, h.0.adr-within, h.1)
 
     read_same : (i : ℕ) (x : Core) → reading S.addrs (off_of S (node_of S k).a) (off_of S (node_of S k).b) (wide_of S k) i (as_is x.net x.map) ≡ read_word S k i x
@@ -189,7 +192,7 @@ module _ (n : Here) (t : GateList) (long : ℕ) (h : Makes (source_of n.laid) n.
     read_same i x =
         rw (wide_is k rule.0, operand_at x.map (node_of S k).b rule.2, ← memory-bits S (node_of S k).a (node.operands.a-used (ap uses_a (is-as READ e))) rule.1)
 
-    pub read-turn : (s : Net) (m : List ℕ) (s' : Net) (m' : List ℕ) → as_is s' m' ≡ placed p.off p.wide (reading S.addrs (get_or n.laid.offs.now n.node.a 0) (get_or n.laid.offs.now n.node.b 0) p.wide) 0 (as_is s m)
+    pub read-turn : (s : Net) (m : List ℕ) (s' : Net) (m' : List ℕ) → as_is s' m' ≡ placed p.off p.wide (reading S.addrs (get_or o n.node.a 0) (get_or o n.node.b 0) p.wide) 0 (as_is s m)
         → Turned (each_word S k (read_word S k)) s m s' m'
     unfolding iter
     read-turn s m s' m' u =
@@ -204,7 +207,7 @@ module _ (n : Here) (t : GateList) (long : ℕ) (h : Makes (source_of n.laid) n.
     own-wide : wide_of S k ≡ S.word
     own-wide = memory-wide S k ruled.0
 
-    write-asks : Accesses 5 t long (listed S) (get_or n.laid.offs.now n.node.a 0) (get_or n.laid.offs.now n.node.b 0) p × (get_or n.laid.offs.now n.node.c 0 + p.wide ≤ long) × (p.off + listed S * p.wide ≤ long)
+    write-asks : Accesses 5 t long (listed S) (get_or o n.node.a 0) (get_or o n.node.b 0) p × (get_or o n.node.c 0 + p.wide ≤ long) × (p.off + listed S * p.wide ≤ long)
     write-asks =
         rw (q, a_at, b_at, c-at) (
           accesses 5 (write-gates S k h.stands.is.low (is-as WRITE e)) own-wide (ap uses_a (is-as WRITE e)) (ap uses_b (is-as WRITE e)) ruled.1 ruled.2,
@@ -215,9 +218,14 @@ module _ (n : Here) (t : GateList) (long : ℕ) (h : Makes (source_of n.laid) n.
     pub write-room : Fits t (length n.laid.addrs.now * (5 * p.wide - 1))
     write-room = write-asks.0.room
 
-    pub write-within : (1 ≤ p.wide) × (p.wide ≤ 64) × (get_or n.laid.offs.now n.node.a 0 + length n.laid.addrs.now * p.wide ≤ long)
-        × (get_or n.laid.offs.now n.node.b 0 + p.wide ≤ long) × (get_or n.laid.offs.now n.node.c 0 + p.wide ≤ long) × (p.off + length n.laid.addrs.now * p.wide ≤ long)
-    write-within = let h = write-asks in (h.0.some, h.0.small, h.0.mem-within, h.0.adr-within, h.1, h.2)
+    pub write-words : (get_or o n.node.b 0 + p.wide ≤ long) × (get_or o n.node.c 0 + p.wide ≤ long)
+    write-words = (write-asks.0.adr-within, write-asks.1)
+
+    pub write-memories : (get_or o n.node.a 0 + length n.laid.addrs.now * p.wide ≤ long) × (p.off + length n.laid.addrs.now * p.wide ≤ long)
+    write-memories = (write-asks.0.mem-within, write-asks.2)
+
+    pub write-wide : (1 ≤ p.wide) × (p.wide ≤ 64)
+    write-wide = (write-asks.0.some, write-asks.0.small)
 
     -- the old memory, shared, is written
     written : List ℕ → Core → Core
@@ -244,7 +252,7 @@ module _ (n : Here) (t : GateList) (long : ℕ) (h : Makes (source_of n.laid) n.
         )
 
     pub write-turn : (s : Net) (m : List ℕ) (s' : Net) (m' : List ℕ)
-        → as_is s' m' ≡ write_at S.addrs (get_or n.laid.offs.now n.node.a 0) (get_or n.laid.offs.now n.node.b 0) (get_or n.laid.offs.now n.node.c 0) p.off p.wide (as_is s m) → Turned (write_own S k) s m s' m'
+        → as_is s' m' ≡ write_at S.addrs (get_or o n.node.a 0) (get_or o n.node.b 0) (get_or o n.node.c 0) p.off p.wide (as_is s m) → Turned (write_own S k) s m s' m'
     unfolding write_own written shared
     write-turn s m s' m' u = λ c nc.
         ap {B = Core} (λ (x : Word). core_at x.net c nc x.out) (rw (q, a_at, b_at, c-at) at u)
@@ -254,4 +262,4 @@ module _ (n : Here) (t : GateList) (long : ℕ) (h : Makes (source_of n.laid) n.
 -- what `grind` has to know in a read's and in a write's own step
 pub ruleset read_steps = (a-inside, b-inside, read-room, read-within)
 
-pub ruleset write_steps = (a-inside, b-inside, c-inside, write-room, write-within)
+pub ruleset write_steps = (a-inside, b-inside, c-inside, write-room, write-wide, write-words, write-memories)

@@ -28,7 +28,8 @@ pub fn write_at(
 )
     requires fits { Fits list.old (length addrs.now * (5 * to.wide - 1)) }
     requires le_w { (1 ≤ to.wide) × (to.wide ≤ 64) }
-    requires w_in_bounds { (old + length addrs.now * to.wide ≤ length map.old) × (adr + to.wide ≤ length map.old) × (val + to.wide ≤ length map.old) × (to.off + length addrs.now * to.wide ≤ length map.old) }
+    requires words_in { (adr + to.wide ≤ length map.old) × (val + to.wide ≤ length map.old) }
+    requires memories_in { (old + length addrs.now * to.wide ≤ length map.old) × (to.off + length addrs.now * to.wide ≤ length map.old) }
     ensures same { SameList list.old list.new }
     ensures made { word_of list.new map.new ≡ write_at addrs.now old adr val to.off to.wide (word_of list.old map.old) }
 {
