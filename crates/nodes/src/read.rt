@@ -31,7 +31,14 @@ pub fn read_at(
 {
     let end = mem + addrs.len() * w;
     let mut word = [0u32; 65];
-    read::read_words(list, addrs, &map[mem..end], &map[adr..adr + w], w, &mut word);
+    read::read_words(
+        list,
+        addrs,
+        &map[mem..end],
+        &map[adr..adr + w],
+        w,
+        &mut word,
+    );
     each::put_bits(map, to, &word, w);
 }
 

@@ -41,7 +41,14 @@ pub fn write_at(
     let mut value = [0u32; 65];
     each::put_bits(&mut value, 0, &map[val..val + w], w);
     share_words(0, old, w, Place { words, ..to }, map);
-    write::write_words(list, addrs, &address[..w], &value[..w], w, &mut map[to.off..end]);
+    write::write_words(
+        list,
+        addrs,
+        &address[..w],
+        &value[..w],
+        w,
+        &mut map[to.off..end],
+    );
 }
 
 impl Here<'_> {
