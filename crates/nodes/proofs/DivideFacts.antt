@@ -13,22 +13,25 @@ use Rattle.table.proofs.Whole.{within, Sound, Even}
 use Rattle.netlist.specs.Record.{Room}
 use Rattle.words.specs.Num.{blank}
 use Rattle.words.specs.Each.{put_bits}
+use Rattle.division.specs.declared.lists.Lists.{Lists}
 use Rattle.division.specs.Constraint.{con_used, cons_of}
 use Rattle.division.specs.Rows.{Checked}
 use Rattle.division.specs.Check.{con_count}
 use Rattle.division.specs.Divide.{divide_words, divide_cost}
 use Rattle.visits.specs.Flow.{Core}
+use Rattle.nodes.specs.declared.place.Here.{Here}
 use Rattle.nodes.specs.declared.place.Place.{Place}
+use Rattle.nodes.specs.Laid.{source_of}
 use Rattle.nodes.specs.Source.{Source, node_of, wide_of, off_of, gates_of, word_at}
 use Rattle.nodes.specs.Own.{divide_own}
 use Rattle.nodes.specs.Place.{divide_at}
-use Rattle.nodes.specs.Asked.{Stands, Owns, place_of, core_at}
+use Rattle.nodes.specs.Asked.{Stands, Owns, place_of, core_at, core_of}
 use Rattle.nodes.proofs.Places.{word_wide, sound-of}
 use Rattle.nodes.proofs.ShapeLaws.{divided, divides-two}
 use Rattle.nodes.proofs.ShareLaws.{same-wide}
 use Rattle.nodes.proofs.StepLaws.{wide-small, two-one}
 use Rattle.nodes.proofs.DivisionLaws.{gates-room, asked-for}
-use Rattle.nodes.proofs.Facts.{word_in, part-first, offset}
+use Rattle.nodes.proofs.Facts.{operands-in, word_in, part-first, offset}
 
 -- where a division's words stand
 pub record Sides (S : Source) (long k : ℕ) : Type 0 where
@@ -78,7 +81,20 @@ checked s = record { net = s.net; cons = cons_of s.cons s.nc; out = s.map }
 put_back : Checked → Core
 put_back x = core_at x.net x.cons.list x.cons.m x.out
 
-module _ (S : Source) (o : List ℕ) (k : ℕ) (s : Core) (h : Owns S o k s) where
+-- node n of a laid table
+module _ (n : Here) (l : Lists) (m : List ℕ) (h : Owns (source_of n.laid) n.laid.offs.now n.k (core_of l m)) where
+  abbrev s : Core
+  s = core_of l m
+
+  abbrev S : Source
+  S = source_of n.laid
+
+  abbrev o : List ℕ
+  o = n.laid.offs.now
+
+  abbrev k : ℕ
+  k = n.k
+
   pub node-small : k < 4294967296
   node-small = omega (arith, within S.table S.addrs S.word h.stands.clear, h.stands.is.high)
 
@@ -98,9 +114,16 @@ module _ (S : Source) (o : List ℕ) (k : ℕ) (s : Core) (h : Owns S o k s) whe
           let y : Checked = divide_words (eqb (node_of S k).kind DIVU) (wide_of S k) k X Y (record { net = s.net; cons = cons_of s.cons s.nc; out = blank }) in
           core_at y.net y.cons.list y.cons.m (put_bits (off_of S k) y.out (wide_of S k) s.map)
 
-  module _ (d : Node) (same : d ≡ node_of S k) (e : divides d.kind ≡ true) (p : Place) (q : p ≡ place_of S k) where
+  -- its operands are nodes of the table
+  pub a-inside : n.node.a < length o
+  a-inside = omega (arith, operands-in S o (length s.map) k h.stands n.node n.is)
+
+  pub b-inside : n.node.b < length o
+  b-inside = omega (arith, operands-in S o (length s.map) k h.stands n.node n.is)
+
+  module _ (e : divides n.node.kind ≡ true) (p : Place) (q : p ≡ place_of S k) where
     kind : divides (node_of S k).kind ≡ true
-    kind = ap (λ (x : Node). divides x.kind) (sym same) ∙ e
+    kind = ap (λ (x : Node). divides x.kind) (sym n.is) ∙ e
 
     there : Sides S (length s.map) k
     there = sides S o (length s.map) k h.stands kind
@@ -120,17 +143,33 @@ module _ (S : Source) (o : List ℕ) (k : ℕ) (s : Core) (h : Owns S o k s) whe
         }
 
     at_of : (x : ℕ) → x < k → get_or o x 0 ≡ off_of S x
-    at_of x l = (offset S o (length s.map) k h.stands x (omega arith)).1
+    at_of x less = (offset S o (length s.map) k h.stands x (omega arith)).1
 
-    left_at : get_or o d.a 0 ≡ off_of S (node_of S k).a
-    left_at = rw same (at_of (node_of S k).a (node S o (length s.map) k h.stands).operands.a)
+    left_at : get_or o n.node.a 0 ≡ off_of S (node_of S k).a
+    left_at = ap (λ (d : Node). get_or o d.a 0) n.is ∙ at_of (node_of S k).a ((node S o (length s.map) k h.stands).operands.a)
 
-    right-at : get_or o d.b 0 ≡ off_of S (node_of S k).b
-    right-at = rw same (at_of (node_of S k).b (node S o (length s.map) k h.stands).operands.b)
+    right-at : get_or o n.node.b 0 ≡ off_of S (node_of S k).b
+    right-at = ap (λ (d : Node). get_or o d.b 0) n.is ∙ at_of (node_of S k).b ((node S o (length s.map) k h.stands).operands.b)
 
-    pub divide-asks : Asks s (get_or o d.a 0) (get_or o d.b 0) p
+    divide-asks : Asks s (get_or o n.node.a 0) (get_or o n.node.b 0) p
     divide-asks = rw (q, left_at, right-at) all-asks
 
-    pub divide-turn : (t : Core) → checked t ≡ divide_at (eqb d.kind DIVU) k p.wide (get_or o d.a 0) (get_or o d.b 0) p.off (checked s) → t ≡ divide_own S k s
-    unfolding put_back
-    divide-turn t u = ap put_back (rw (q, left_at, right-at, same) at u) ∙ divide-along there
+    pub divide-room : Room s.net.gates (s.net.n + divide_cost p.wide) × (s.net.n + divide_cost p.wide < 4294967296)
+    divide-room = (divide-asks.room, divide-asks.cap)
+
+    pub divide-cons : con_used (s.nc + con_count p.wide) ≤ length s.cons
+    divide-cons = divide-asks.asks
+
+    pub divide-within : (1 ≤ p.wide) × (p.wide ≤ 64) × (get_or o n.node.a 0 + p.wide ≤ length s.map) × (get_or o n.node.b 0 + p.wide ≤ length s.map)
+        × (p.off + p.wide ≤ length s.map)
+    divide-within = let h = divide-asks in (h.some, h.small, h.left-within, h.right-within, h.within)
+
+    divided-as : Node → Checked
+    divided-as d = divide_at (eqb d.kind DIVU) k p.wide (get_or o n.node.a 0) (get_or o n.node.b 0) p.off (checked s)
+
+    pub divide-turn : (t : Core) → checked t ≡ divide_at (eqb n.node.kind DIVU) k p.wide (get_or o n.node.a 0) (get_or o n.node.b 0) p.off (checked s) → t ≡ divide_own S k s
+    unfolding put_back divided-as
+    divide-turn t u = ap put_back (rw (q, left_at, right-at) at (u ∙ ap divided-as n.is)) ∙ divide-along there
+
+-- what `grind` has to know in a division's own step
+pub ruleset divide_steps = (node-small, a-inside, b-inside, divide-room, divide-cons, divide-within)

@@ -26,6 +26,8 @@ use Rattle.memory.proofs.ReadLaws.{put_low}
 use Rattle.visits.specs.Flow.{Core}
 use Rattle.visits.specs.Stored.{stored}
 use Rattle.nodes.specs.declared.place.Place.{Place}
+use Rattle.nodes.specs.declared.place.Here.{Here}
+use Rattle.nodes.specs.Laid.{source_of}
 use Rattle.nodes.specs.Source.{Source, listed, node_of, words_of, wide_of, bits_of, off_of, gates_of, word_at, all_at}
 use Rattle.nodes.specs.Own.{as_is, read_word, each_word, write_own}
 use Rattle.nodes.specs.Place.{placed, reading, share_at, write_at}
@@ -33,7 +35,7 @@ use Rattle.nodes.specs.Asked.{Makes, place_of, core_at, Turned}
 use Rattle.nodes.proofs.OpKinds.{op-plain}
 use Rattle.nodes.proofs.Places.{word-words, word_wide, memory-words, memory-wide, sound-of}
 use Rattle.nodes.proofs.MemoryLaws.{memory-bits, read-gates, write-gates}
-use Rattle.nodes.proofs.Facts.{place-within, offset, words-turn, share-turn, word_in, part-first}
+use Rattle.nodes.proofs.Facts.{operands-in, place-within, offset, words-turn, share-turn, word_in, part-first}
 
 -- a word of the map, copied to scratch
 pub scratch-long : (w : ℕ) (bits scratch : List ℕ) → w ≤ 64 → scratch ≡ put_bits 0 bits w blank → w ≡ length (take w scratch)
@@ -97,7 +99,17 @@ pub record Accesses (cost : ℕ) (t : GateList) (long n mem adr : ℕ) (p : Plac
   pub mem-within : mem + n * p.wide ≤ long
   pub adr-within : adr + p.wide ≤ long
 
-module _ (S : Source) (o : List ℕ) (t : GateList) (long k : ℕ) (h : Makes S o t long k) where
+-- node n of a laid table
+module _ (n : Here) (t : GateList) (long : ℕ) (h : Makes (source_of n.laid) n.laid.offs.now t long n.k) where
+  abbrev S : Source
+  S = source_of n.laid
+
+  abbrev o : List ℕ
+  o = n.laid.offs.now
+
+  abbrev k : ℕ
+  k = n.k
+
   node : Sound S.table S.word k
   node = sound-of S h.stands.clear k h.stands.is
 
@@ -133,88 +145,121 @@ module _ (S : Source) (o : List ℕ) (t : GateList) (long k : ℕ) (h : Makes S 
         adr-within = rw v (operand_in (node_of S k).b (node.operands.b-used ub) (omega (arith, node.operands.b)) vb);
       }
 
-  module _ (d : Node) (same : d ≡ node_of S k) (p : Place) (q : p ≡ place_of S k) where
-    is-as : (x : ℕ) → d.kind ≡ x → (node_of S k).kind ≡ x
-    is-as x e = ap (λ (y : Node). y.kind) (sym same) ∙ e
+  is-as : (x : ℕ) → n.node.kind ≡ x → (node_of S k).kind ≡ x
+  is-as x e = ap (λ (y : Node). y.kind) (sym n.is) ∙ e
 
-    -- where the operands stand
-    a_at : get_or o d.a 0 ≡ off_of S (node_of S k).a
-    a_at = rw same (offset S o long k h.stands (node_of S k).a (omega (arith, node.operands.a))).1
+  -- its operands are nodes of the table
+  pub a-inside : n.node.a < length o
+  a-inside = omega (arith, operands-in S o long k h.stands n.node n.is)
 
-    b_at : get_or o d.b 0 ≡ off_of S (node_of S k).b
-    b_at = rw same (offset S o long k h.stands (node_of S k).b (omega (arith, node.operands.b))).1
+  pub b-inside : n.node.b < length o
+  b-inside = omega (arith, operands-in S o long k h.stands n.node n.is)
 
-    c-at : get_or o d.c 0 ≡ off_of S (node_of S k).c
-    c-at = rw same (offset S o long k h.stands (node_of S k).c (omega (arith, node.operands.c))).1
+  pub c-inside : n.node.c < length o
+  c-inside = omega (arith, operands-in S o long k h.stands n.node n.is)
 
-    -- a read
-    module _ (e : d.kind ≡ READ) where
-      rule : ((node_of S k).width ≡ S.word) × (width_of S.table (node_of S k).a ≡ 0) × (width_of S.table (node_of S k).b ≡ S.word)
-      rule = sorts.reads (is-as READ e)
+  -- where the operands stand
+  a_at : get_or o n.node.a 0 ≡ off_of S (node_of S k).a
+  a_at = ap (λ (d : Node). get_or o d.a 0) n.is ∙ (offset S o long k h.stands (node_of S k).a (omega (arith, node.operands.a))).1
 
-      pub read-asks : Accesses 4 t long (listed S) (get_or o d.a 0) (get_or o d.b 0) p × (p.off + p.wide ≤ long)
-      read-asks =
-          rw (q, a_at, b_at) (
-            accesses 4 (read-gates S k h.stands.is.low (is-as READ e)) (wide_is k rule.0) (ap uses_a (is-as READ e)) (ap uses_b (is-as READ e)) rule.1 rule.2,
-            word_in S o long k k h.stands h.stands.is.low (omega arith) (omega (arith, range, rule.0)),
-          )
+  b_at : get_or o n.node.b 0 ≡ off_of S (node_of S k).b
+  b_at = ap (λ (d : Node). get_or o d.b 0) n.is ∙ (offset S o long k h.stands (node_of S k).b (omega (arith, node.operands.b))).1
 
-      read_same : (i : ℕ) (x : Core) → reading S.addrs (off_of S (node_of S k).a) (off_of S (node_of S k).b) (wide_of S k) i (as_is x.net x.map) ≡ read_word S k i x
-      unfolding reading read_word
-      read_same i x =
-          rw (wide_is k rule.0, operand_at x.map (node_of S k).b rule.2, ← memory-bits S (node_of S k).a (node.operands.a-used (ap uses_a (is-as READ e))) rule.1)
+  c-at : get_or o n.node.c 0 ≡ off_of S (node_of S k).c
+  c-at = ap (λ (d : Node). get_or o d.c 0) n.is ∙ (offset S o long k h.stands (node_of S k).c (omega (arith, node.operands.c))).1
 
-      pub read-turn : (s : Net) (m : List ℕ) (s' : Net) (m' : List ℕ) → as_is s' m' ≡ placed p.off p.wide (reading S.addrs (get_or o d.a 0) (get_or o d.b 0) p.wide) 0 (as_is s m)
-          → Turned (each_word S k (read_word S k)) s m s' m'
-      unfolding iter
-      read-turn s m s' m' u =
-          words-turn S k (reading S.addrs (off_of S (node_of S k).a) (off_of S (node_of S k).b) (wide_of S k)) (read_word S k) read_same (place_of S k) s m s' m' refl
-          (rw (word-words S k (omega (arith, range, rule.0))) (rw (q, a_at, b_at) at u))
+  -- a read
+  module _ (e : n.node.kind ≡ READ) (p : Place) (q : p ≡ place_of S k) where
+    rule : ((node_of S k).width ≡ S.word) × (width_of S.table (node_of S k).a ≡ 0) × (width_of S.table (node_of S k).b ≡ S.word)
+    rule = sorts.reads (is-as READ e)
 
-    -- a write
-    module _ (e : d.kind ≡ WRITE) where
-      ruled : ((node_of S k).width ≡ 0) × (width_of S.table (node_of S k).a ≡ 0) × (width_of S.table (node_of S k).b ≡ S.word) × (width_of S.table (node_of S k).c ≡ S.word)
-      ruled = sorts.writes (is-as WRITE e)
+    read-asks : Accesses 4 t long (listed S) (get_or o n.node.a 0) (get_or o n.node.b 0) p × (p.off + p.wide ≤ long)
+    read-asks =
+        rw (q, a_at, b_at) (
+          accesses 4 (read-gates S k h.stands.is.low (is-as READ e)) (wide_is k rule.0) (ap uses_a (is-as READ e)) (ap uses_b (is-as READ e)) rule.1 rule.2,
+          word_in S o long k k h.stands h.stands.is.low (omega arith) (omega (arith, range, rule.0)),
+        )
 
-      own-wide : wide_of S k ≡ S.word
-      own-wide = memory-wide S k ruled.0
+    pub read-room : Fits t (length n.laid.addrs.now * (4 * p.wide - 1))
+    read-room = read-asks.0.room
 
-      pub write-asks : Accesses 5 t long (listed S) (get_or o d.a 0) (get_or o d.b 0) p × (get_or o d.c 0 + p.wide ≤ long) × (p.off + listed S * p.wide ≤ long)
-      write-asks =
-          rw (q, a_at, b_at, c-at) (
-            accesses 5 (write-gates S k h.stands.is.low (is-as WRITE e)) own-wide (ap uses_a (is-as WRITE e)) (ap uses_b (is-as WRITE e)) ruled.1 ruled.2,
-            rw own-wide (operand_in (node_of S k).c (node.operands.c-used (ap uses_c (is-as WRITE e))) (omega (arith, node.operands.c)) ruled.3),
-            rw own-wide (memory-in k h.stands.is.low (omega arith) ruled.0),
-          )
+    pub read-within : (1 ≤ p.wide) × (p.wide ≤ 64) × (get_or o n.node.a 0 + length n.laid.addrs.now * p.wide ≤ long)
+        × (get_or o n.node.b 0 + p.wide ≤ long) × (p.off + p.wide ≤ long)
+    read-within = let h = read-asks in (h.0.some, h.0.small, h.0.mem-within, h.0.adr-within, h.1)
 
-      -- the old memory, shared, is written
-      written : List ℕ → Core → Core
-      written m t =
-          let x : Word =
-          write_words (listed S) S.word S.addrs (word_at S m (node_of S k).b 0) (word_at S m (node_of S k).c 0) (record { net = t.net; out = all_at S t.map k }) in
-          stored (off_of S k) (bits_of S k) t x.net x.out
+    read_same : (i : ℕ) (x : Core) → reading S.addrs (off_of S (node_of S k).a) (off_of S (node_of S k).b) (wide_of S k) i (as_is x.net x.map) ≡ read_word S k i x
+    unfolding reading read_word
+    read_same i x =
+        rw (wide_is k rule.0, operand_at x.map (node_of S k).b rule.2, ← memory-bits S (node_of S k).a (node.operands.a-used (ap uses_a (is-as READ e))) rule.1)
 
-      shared : List ℕ → List ℕ
-      shared m = iter (words_of S k) (share_at 0 (off_of S (node_of S k).a) (wide_of S (node_of S k).a) (off_of S k) (wide_of S k)) m
+    pub read-turn : (s : Net) (m : List ℕ) (s' : Net) (m' : List ℕ) → as_is s' m' ≡ placed p.off p.wide (reading S.addrs (get_or o n.node.a 0) (get_or o n.node.b 0) p.wide) 0 (as_is s m)
+        → Turned (each_word S k (read_word S k)) s m s' m'
+    unfolding iter
+    read-turn s m s' m' u =
+        words-turn S k (reading S.addrs (off_of S (node_of S k).a) (off_of S (node_of S k).b) (wide_of S k)) (read_word S k) read_same (place_of S k) s m s' m' refl
+        (rw (word-words S k (omega (arith, range, rule.0))) (rw (q, a_at, b_at) at u))
 
-      write_same : (s : Net) (m c : List ℕ) (nc : ℕ)
-          → (let x : Word = write_at S.addrs (off_of S (node_of S k).a) (off_of S (node_of S k).b) (off_of S (node_of S k).c) (off_of S k) (wide_of S k) (as_is s m) in
-          core_at x.net c nc x.out ≡ written m (core_at s c nc (shared m)))
-      unfolding write_at written shared stored
-      write_same s m c nc =
-          rw (
-            own-wide,
-            memory-wide S (node_of S k).a ruled.1,
-            memory-words S k ruled.0,
-            memory-bits S k h.stands.is.low ruled.0,
-            operand_at m (node_of S k).b ruled.2,
-            operand_at m (node_of S k).c ruled.3,
-          )
+  -- a write
+  module _ (e : n.node.kind ≡ WRITE) (p : Place) (q : p ≡ place_of S k) where
+    ruled : ((node_of S k).width ≡ 0) × (width_of S.table (node_of S k).a ≡ 0) × (width_of S.table (node_of S k).b ≡ S.word) × (width_of S.table (node_of S k).c ≡ S.word)
+    ruled = sorts.writes (is-as WRITE e)
 
-      pub write-turn : (s : Net) (m : List ℕ) (s' : Net) (m' : List ℕ)
-          → as_is s' m' ≡ write_at S.addrs (get_or o d.a 0) (get_or o d.b 0) (get_or o d.c 0) p.off p.wide (as_is s m) → Turned (write_own S k) s m s' m'
-      unfolding write_own written shared
-      write-turn s m s' m' u = λ c nc.
-          ap {B = Core} (λ (x : Word). core_at x.net c nc x.out) (rw (q, a_at, b_at, c-at) at u)
-          ∙ write_same s m c nc
-          ∙ ap (written m) (share-turn S k 0 (node_of S k).a (place_of S k) (place_of S (node_of S k).a) m (shared m) refl refl refl s c nc)
+    own-wide : wide_of S k ≡ S.word
+    own-wide = memory-wide S k ruled.0
+
+    write-asks : Accesses 5 t long (listed S) (get_or o n.node.a 0) (get_or o n.node.b 0) p × (get_or o n.node.c 0 + p.wide ≤ long) × (p.off + listed S * p.wide ≤ long)
+    write-asks =
+        rw (q, a_at, b_at, c-at) (
+          accesses 5 (write-gates S k h.stands.is.low (is-as WRITE e)) own-wide (ap uses_a (is-as WRITE e)) (ap uses_b (is-as WRITE e)) ruled.1 ruled.2,
+          rw own-wide (operand_in (node_of S k).c (node.operands.c-used (ap uses_c (is-as WRITE e))) (omega (arith, node.operands.c)) ruled.3),
+          rw own-wide (memory-in k h.stands.is.low (omega arith) ruled.0),
+        )
+
+    pub write-room : Fits t (length n.laid.addrs.now * (5 * p.wide - 1))
+    write-room = write-asks.0.room
+
+    pub write-words : (get_or o n.node.b 0 + p.wide ≤ long) × (get_or o n.node.c 0 + p.wide ≤ long)
+    write-words = (write-asks.0.adr-within, write-asks.1)
+
+    pub write-memories : (get_or o n.node.a 0 + length n.laid.addrs.now * p.wide ≤ long) × (p.off + length n.laid.addrs.now * p.wide ≤ long)
+    write-memories = (write-asks.0.mem-within, write-asks.2)
+
+    pub write-wide : (1 ≤ p.wide) × (p.wide ≤ 64)
+    write-wide = (write-asks.0.some, write-asks.0.small)
+
+    -- the old memory, shared, is written
+    written : List ℕ → Core → Core
+    written m t =
+        let x : Word =
+        write_words (listed S) S.word S.addrs (word_at S m (node_of S k).b 0) (word_at S m (node_of S k).c 0) (record { net = t.net; out = all_at S t.map k }) in
+        stored (off_of S k) (bits_of S k) t x.net x.out
+
+    shared : List ℕ → List ℕ
+    shared m = iter (words_of S k) (share_at 0 (off_of S (node_of S k).a) (wide_of S (node_of S k).a) (off_of S k) (wide_of S k)) m
+
+    write_same : (s : Net) (m c : List ℕ) (nc : ℕ)
+        → (let x : Word = write_at S.addrs (off_of S (node_of S k).a) (off_of S (node_of S k).b) (off_of S (node_of S k).c) (off_of S k) (wide_of S k) (as_is s m) in
+        core_at x.net c nc x.out ≡ written m (core_at s c nc (shared m)))
+    unfolding write_at written shared stored
+    write_same s m c nc =
+        rw (
+          own-wide,
+          memory-wide S (node_of S k).a ruled.1,
+          memory-words S k ruled.0,
+          memory-bits S k h.stands.is.low ruled.0,
+          operand_at m (node_of S k).b ruled.2,
+          operand_at m (node_of S k).c ruled.3,
+        )
+
+    pub write-turn : (s : Net) (m : List ℕ) (s' : Net) (m' : List ℕ)
+        → as_is s' m' ≡ write_at S.addrs (get_or o n.node.a 0) (get_or o n.node.b 0) (get_or o n.node.c 0) p.off p.wide (as_is s m) → Turned (write_own S k) s m s' m'
+    unfolding write_own written shared
+    write-turn s m s' m' u = λ c nc.
+        ap {B = Core} (λ (x : Word). core_at x.net c nc x.out) (rw (q, a_at, b_at, c-at) at u)
+        ∙ write_same s m c nc
+        ∙ ap (written m) (share-turn S k 0 (node_of S k).a (place_of S k) (place_of S (node_of S k).a) m (shared m) refl refl refl s c nc)
+
+-- what `grind` has to know in a read's and in a write's own step
+pub ruleset read_steps = (a-inside, b-inside, read-room, read-within)
+
+pub ruleset write_steps = (a-inside, b-inside, c-inside, write-room, write-wide, write-words, write-memories)

@@ -49,6 +49,7 @@ pub fn divide_places(
 
 impl Here<'_> {
     // The own step of a division.
+    #[tactic(auto, using(crate::proofs::DivideFacts::divide_steps))]
     pub fn divide_node(&self, lists: &mut Lists, map: &mut [u32])
         requires { Owns (source_of self.now.laid) self.now.laid.offs.now self.now.k (core_of lists.old map.old) × (kinds.divides self.now.node.kind ≡ true) }
         ensures same { SameLists lists.old lists.new }

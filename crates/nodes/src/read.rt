@@ -31,12 +31,20 @@ pub fn read_at(
 {
     let end = mem + addrs.len() * w;
     let mut word = [0u32; 65];
-    read::read_words(list, addrs, &map[mem..end], &map[adr..adr + w], w, &mut word);
+    read::read_words(
+        list,
+        addrs,
+        &map[mem..end],
+        &map[adr..adr + w],
+        w,
+        &mut word,
+    );
     each::put_bits(map, to, &word, w);
 }
 
 impl Here<'_> {
     // The own step of a read.
+    #[tactic(auto, using(crate::proofs::MemoryFacts::read_steps))]
     pub fn read_node(&self, list: &mut GateList, map: &mut [u32])
         requires { Makes (source_of self.now.laid) self.now.laid.offs.now list.old (length map.old) self.now.k × (self.now.node.kind ≡ READ) }
         ensures same { SameList list.old list.new }

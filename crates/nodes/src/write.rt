@@ -27,7 +27,9 @@ pub fn write_at(
     map: &mut [u32],
 )
     requires fits { Fits list.old (length addrs.now * (5 * to.wide - 1)) }
-    requires le_w { (1 ≤ to.wide) × (to.wide ≤ 64) × (old + length addrs.now * to.wide ≤ length map.old) × (adr + to.wide ≤ length map.old) × (val + to.wide ≤ length map.old) × (to.off + length addrs.now * to.wide ≤ length map.old) }
+    requires le_w { (1 ≤ to.wide) × (to.wide ≤ 64) }
+    requires words_in { (adr + to.wide ≤ length map.old) × (val + to.wide ≤ length map.old) }
+    requires memories_in { (old + length addrs.now * to.wide ≤ length map.old) × (to.off + length addrs.now * to.wide ≤ length map.old) }
     ensures same { SameList list.old list.new }
     ensures made { word_of list.new map.new ≡ write_at addrs.now old adr val to.off to.wide (word_of list.old map.old) }
 {
@@ -39,11 +41,19 @@ pub fn write_at(
     let mut value = [0u32; 65];
     each::put_bits(&mut value, 0, &map[val..val + w], w);
     share_words(0, old, w, Place { words, ..to }, map);
-    write::write_words(list, addrs, &address[..w], &value[..w], w, &mut map[to.off..end]);
+    write::write_words(
+        list,
+        addrs,
+        &address[..w],
+        &value[..w],
+        w,
+        &mut map[to.off..end],
+    );
 }
 
 impl Here<'_> {
     // The own step of a write.
+    #[tactic(auto, using(crate::proofs::MemoryFacts::write_steps))]
     pub fn write_node(&self, list: &mut GateList, map: &mut [u32])
         requires { Makes (source_of self.now.laid) self.now.laid.offs.now list.old (length map.old) self.now.k × (self.now.node.kind ≡ WRITE) }
         ensures same { SameList list.old list.new }
