@@ -28,8 +28,10 @@ put_same l n g h =
     let l3 : List ℕ = set l2 (a + 2) g.y in
     let p3 : get_or (set l3 (a + 3) g.z) (a + 3) 0 ≡ g.z = there l3 (a + 3) g.z (simp length-set (omega arith)) in
     let p2 : get_or (set l3 (a + 3) g.z) (a + 2) 0 ≡ g.y = above l3 (a + 3) (a + 2) g.z (omega arith) ∙ there l2 (a + 2) g.y (simp length-set (omega arith)) in
-    let p1 : get_or (set l3 (a + 3) g.z) (a + 1) 0 ≡ g.x = above l3 (a + 3) (a + 1) g.z (omega arith) ∙ (above l2 (a + 2) (a + 1) g.y (omega arith) ∙ there l1 (a + 1) g.x (simp length-set (omega arith))) in
-    let p0 : get_or (set l3 (a + 3) g.z) a 0 ≡ g.kind = above l3 (a + 3) a g.z (omega arith) ∙ (above l2 (a + 2) a g.y (omega arith) ∙ (above l1 (a + 1) a g.x (omega arith) ∙ there l a g.kind (omega arith))) in
+    let p1 : get_or (set l3 (a + 3) g.z) (a + 1) 0 ≡ g.x = above l3 (a + 3) (a + 1) g.z (omega arith) ∙ (above l2 (a + 2) (a + 1) g.y (omega arith)
+    ∙ there l1 (a + 1) g.x (simp length-set (omega arith))) in
+    let p0 : get_or (set l3 (a + 3) g.z) a 0 ≡ g.kind = above l3 (a + 3) a g.z (omega arith) ∙ (above l2 (a + 2) a g.y (omega arith)
+    ∙ (above l1 (a + 1) a g.x (omega arith) ∙ there l a g.kind (omega arith))) in
     λ t. record { kind = p0 t; x = p1 t; y = p2 t; z = p3 t }
 
 below : (l : List ℕ) (n : ℕ) (g : Gate) (j : ℕ) → j < 4 * n → get_or (put l n g) j 0 ≡ get_or l j 0
