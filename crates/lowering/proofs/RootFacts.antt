@@ -21,8 +21,9 @@ use Rattle.gates.specs.Made.{MadeBit, net_of, made_of, added}
 use Rattle.netlist.specs.Net.{Net}
 use Rattle.nodes.specs.Source.{Source, node_of, gates_of, total_of}
 use Rattle.nodes.specs.Recipe.{recipe}
-use Rattle.lowering.specs.Lower.{start, UNREACHED}
-use Rattle.lowering.specs.Visit.{Goes, Begins, Visits, low_of}
+use Rattle.lowering.specs.Lower.{start, UNREACHED, counted, made_low}
+use Rattle.division.specs.declared.constraint.ConstraintList.{ConstraintList}
+use Rattle.lowering.specs.Visit.{Goes, Begins, Visits, lists_of, low_of}
 use Rattle.lowering.proofs.StartLaws.{starts, gates-sum}
 use Rattle.lowering.proofs.VisitFacts.{goes-visited}
 use Rattle.lowering.proofs.Caps.{gates-cap}
@@ -85,3 +86,8 @@ module _ (S : Source) (o g c m z : List ℕ) (h : Begins S o g c m z) where
 
     pub from_start : (t : Low) → t ≡ lower_to (recipe S) (low_of l m1 z1) → t ≡ lower_to (recipe S) (start S g c)
     from_start t e = e ∙ ap (lower_to (recipe S)) begin-is
+
+-- the lent buffers hold what the two lists say
+pub buffers : (m z : List ℕ) (l : GateList) (k : ConstraintList) (t : Low) → low_of (lists_of l k) m z ≡ t → (g c : List ℕ) → g ≡ l.records.now → c ≡ k.pairs.now
+    → made_low (counted l.n k.m) g c m z ≡ t
+buffers m z l k t e g c p q = rw (p, q) e

@@ -5,6 +5,8 @@ use Rattle.table.specs.Node.{nodes}
 use Rattle.table.specs.Sheet.{table_fault}
 use Rattle.table.specs.Size.{Offsets}
 use Rattle.netlist.specs.Record.{Room, records}
+use Rattle.gates.specs.declared.list.GateList.{GateList}
+use Rattle.division.specs.declared.constraint.ConstraintList.{ConstraintList}
 use Rattle.division.specs.declared.lists.Lists.{Lists}
 use Rattle.division.specs.Constraint.{con_used}
 use Rattle.visits.specs.Flow.{Low, enter, visit_to}
@@ -13,6 +15,10 @@ use Rattle.nodes.specs.Source.{Source, listed, total_of, gates_of, asks_of}
 use Rattle.nodes.specs.Recipe.{recipe}
 use Rattle.nodes.specs.Asked.{core_of}
 use Rattle.lowering.specs.Lower.{sums, con_records}
+
+-- the two lists as one
+abbrev pub lists_of : GateList → ConstraintList → Lists
+lists_of l k = record { gates = l; cons = k }
 
 -- the state that the two lists, the map and the marks say
 abbrev pub low_of : Lists → List ℕ → List ℕ → Low

@@ -2,11 +2,13 @@
 ghost use Rattle.std.specs.Prelude.{◌≡◌, ◌≤◌};
 ghost use Rattle.table.specs.Node.{nodes};
 ghost use Rattle.visits.specs.Flow.{root_step, lower_to};
+ghost use Rattle.gates.specs.Made.{SameList};
+ghost use Rattle.division.specs.Constraint.{SameCons};
 ghost use Rattle.division.specs.Rows.{SameLists};
 ghost use Rattle.nodes.specs.Laid.{source_of};
 ghost use Rattle.nodes.specs.Recipe.{recipe};
 ghost use Rattle.lowering.specs.Lower.{start, made_low};
-ghost use Rattle.lowering.specs.Visit.{Goes, Begins, low_of};
+ghost use Rattle.lowering.specs.Visit.{Goes, Begins, lists_of, low_of};
 
 use crate::lower::Done;
 use crate::visit::visit;
@@ -15,6 +17,7 @@ use division::lists::Lists;
 use gates::list::GateList;
 use netlist::record::Gate;
 use nodes::place::Laid;
+use std::mem;
 use table::field::node_at;
 use table::kind::BAD;
 
@@ -44,31 +47,60 @@ fn roots(laid: &Laid, lists: &mut Lists, map: &mut [u32], seen: &mut [u8])
     }
 }
 
-// From the two constants on: no constraint, no bits, nothing seen.
-pub fn lower_roots<'a>(
+// The same of two lists that are lent apart: they are moved into one and back.
+fn roots_of(
     laid: &Laid,
-    gates: &'a mut [u32],
-    cons: &'a mut [u32],
+    gates: &mut GateList,
+    cons: &mut ConstraintList,
+    map: &mut [u32],
+    seen: &mut [u8],
+)
+    requires { Goes (source_of laid.now) laid.now.offs.now 0 0 (low_of (lists_of gates.old cons.old) map.old seen.old) }
+    ensures same_gates { SameList gates.old gates.new }
+    ensures same_cons { SameCons cons.old cons.new }
+    ensures made { low_of (lists_of gates.new cons.new) map.new seen.new ≡ lower_to (recipe (source_of laid.now)) (low_of (lists_of gates.old cons.old) map.old seen.old) }
+{
+    let no_gates = GateList {
+        records: &mut [],
+        n: 0,
+    };
+    let no_cons = ConstraintList {
+        pairs: &mut [],
+        m: 0,
+    };
+    let mut lists = Lists {
+        gates: mem::replace(gates, no_gates),
+        cons: mem::replace(cons, no_cons),
+    };
+    roots(laid, &mut lists, map, seen);
+    let Lists { gates: g, cons: k } = lists;
+    *gates = g;
+    *cons = k;
+}
+
+// From the two constants on: no constraint, no bits, nothing seen.
+pub fn lower_roots(
+    laid: &Laid,
+    gates: &mut [u32],
+    cons: &mut [u32],
     map: &mut [u32],
     seen: &mut [u8],
 ) -> Done
     requires { Begins (source_of laid.now) laid.now.offs.now gates.old cons.old map.old seen.old }
     ensures { made_low result gates.new cons.new map.new seen.new ≡ lower_to (recipe (source_of laid.now)) (start (source_of laid.now) gates.old cons.old) }
 {
-    let mut lists = Lists {
-        gates: GateList {
-            records: gates,
-            n: 0,
-        },
-        cons: ConstraintList { pairs: cons, m: 0 },
+    let mut list = GateList {
+        records: gates,
+        n: 0,
     };
-    lists.gates.append(Gate::CONST_FALSE, 0, 0, 0);
-    lists.gates.append(Gate::CONST_TRUE, 0, 0, 0);
+    let mut held = ConstraintList { pairs: cons, m: 0 };
+    list.append(Gate::CONST_FALSE, 0, 0, 0);
+    list.append(Gate::CONST_TRUE, 0, 0, 0);
     map.fill(UNREACHED);
     seen.fill(0);
-    roots(laid, &mut lists, map, seen);
+    roots_of(laid, &mut list, &mut held, map, seen);
     Done {
-        gates: lists.gates.n,
-        constraints: lists.cons.m,
+        gates: list.n,
+        constraints: held.m,
     }
 }

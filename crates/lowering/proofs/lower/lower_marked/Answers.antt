@@ -6,7 +6,10 @@ use Rattle.lowering.proofs.LowerFacts.{faulty, unasked, clear-asked, clear-all, 
 use Rattle.lowering.proofs.lower.lower_marked.Goals as goal
 
 pub returns-in_err-check_table : goal.returns-in_err-check_table
-returns-in_err-check_table c = ?
+returns-in_err-check_table c = record {
+  promise = promise (source c.args.table.now c.args.addrs.now c.args.word) c.args.gates.now c.args.constraints.now c.args.map.now _ _ _ _ (search (rules, faulty (source c.args.table.now c.args.addrs.now c.args.word) c.args.gates.now c.args.constraints.now c.args.map.now));
+  marks_after = search (rules, faulty-marks);
+}
 
 pub returns-then-not-asks : goal.returns-then-not-asks
 returns-then-not-asks c = record {
