@@ -1,5 +1,5 @@
 -- What every definition of the house is made of: a case by a test, a loop, a search, a sum.
-use Rattle.std.specs.Prelude.{Bool, true, false, ℕ, zero, suc, ◌+◌, ltb}
+use Rattle.std.specs.Prelude.{Bool, true, false, ℕ, zero, suc, ◌+◌, ltb, Option, Some, None}
 
 -- a where the test holds, else b
 unfoldable pub pick {ℓ} : {A : Type ℓ} → Bool → A → A → A
@@ -17,6 +17,10 @@ first zero p = 0
 first (suc n) p =
     let r : ℕ = first n p in
     pick (ltb r n) r (pick (p n) n (suc n))
+
+-- the same as a find's answer: the least i below n with `p i`, if there is one
+unfoldable pub found : ℕ → (ℕ → Bool) → Option ℕ
+found n p = pick (ltb (first n p) n) (Some (first n p)) None
 
 -- f 0 + f 1 + .. + f (n - 1)
 unfoldable pub sum : ℕ → (ℕ → ℕ) → ℕ

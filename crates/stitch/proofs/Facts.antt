@@ -16,12 +16,12 @@ use Rattle.table.proofs.size.Laws.{stored, sum_mono, offset-end}
 use Rattle.netlist.specs.Record.{used, Room}
 use Rattle.text.specs.Plain.{Plain, plain_text}
 use Rattle.text.specs.Plain.Plain.{plain}
-use Rattle.text.specs.declared.read.Read.{Read}
-use Rattle.text.specs.declared.read.Read.TheVariants as reads
+use Rattle.std.specs.Prelude.{Option, Some, None}
+use Rattle.text.specs.declared.read.Table as reads
 use Rattle.text.specs.Read.{addr_size, node_size, answer_of, read_text, addr_list, node_table, word_width}
 use Rattle.text.specs.Read.Stored.{stored as kept}
 use Rattle.text.specs.Write.{Offsets, constraint_size, gate_count, node_count, constraint_count, output_room, refused_room, refused_line, output, Written}
-use Rattle.text.proofs.Answers.{TableRead, table-read, refused-read, plain_of}
+use Rattle.text.proofs.Answers.{TableRead, table-read, refused-read, table, plain_of}
 use Rattle.text.proofs.Sizes.{room}
 use Rattle.lowering.specs.declared.lower.Answer.{Answer}
 use Rattle.lowering.specs.declared.lower.Answer.TheVariants.{Done, Table, NothingAsked, GateRoom, BitRoom, ConstraintRoom}
@@ -217,29 +217,29 @@ module _ (S : Source) (g0 c0 m0 z0 o g1 c1 m1 : List ℕ) (a : Answer) (g c m z 
 
 -- ---- a text
 
-plain-refused : (p : Plain) → answer_of p ≡ reads.Refused → refused_line 1 0 ≡ plain_lines p
+plain-refused : (p : Plain) → answer_of p ≡ None → refused_line 1 0 ≡ plain_lines p
 unfolding answer_of plain_lines
 plain-refused (plain true w xs ns) e = absurd (let i : ◌≡◌ {A = ℕ} 0 1 = cc in omega arith)
 plain-refused (plain false w xs ns) e = refl
 
-plain-table : (p : Plain) (w n m : ℕ) → answer_of p ≡ reads.Table w n m → table_lines (source (node_table p) (addr_list p) (word_width p)) ≡ plain_lines p
+plain-table : (p : Plain) (w n m : ℕ) → answer_of p ≡ Some (table w n m) → table_lines (source (node_table p) (addr_list p) (word_width p)) ≡ plain_lines p
 unfolding answer_of plain_lines
 plain-table (plain true v xs ns) w n m e = refl
 plain-table (plain false v xs ns) w n m e = absurd (let i : ◌≡◌ {A = ℕ} 0 1 = cc in omega arith)
 
-module _ (x a b c d : List ℕ) (l : TextRoom a b) (r : Read) (e : kept r c d ≡ read_text x a b) where
+module _ (x a b c d : List ℕ) (l : TextRoom a b) (r : Option reads.Table) (e : kept r c d ≡ read_text x a b) where
   same-plain : plain_of x a b ≡ plain_text ADDRS NODES x
   same-plain =
       let p : length a / addr_size ≡ ADDRS = omega (arith, l.addrs) in
       let q : length b / node_size ≡ NODES = omega (arith, l.nodes) in
       rw (p, q)
 
-  pub text-refused : r ≡ reads.Refused → (out after : List ℕ) (n : ℕ) → Written out (refused_line 1 0) after n → Written out (printed x) after n
+  pub text-refused : r ≡ None → (out after : List ℕ) (n : ℕ) → Written out (refused_line 1 0) after n → Written out (printed x) after n
   unfolding printed
   text-refused h out after n w =
       as-printed out after n _ _ (plain-refused (plain_of x a b) (refused-read x a b c d (rw h at e)) ∙ ap plain_lines same-plain) w
 
-  module _ (w n m : ℕ) (h : r ≡ reads.Table w n m) where
+  module _ (w n m : ℕ) (h : r ≡ Some (table w n m)) where
     read_as : TableRead x a b c d w n m
     read_as = table-read x a b c d w n m (rw h at e)
 

@@ -12,7 +12,7 @@ use lowering::fill::fill;
 use lowering::lower::{count, lower_marked, node, number};
 use netlist::record;
 use table::Unit;
-use text::read::{Read, read_text};
+use text::read::{Table, read_text};
 use text::write::{write, write_refused};
 
 // A lowering that is done, with n gates and k constraints.
@@ -111,12 +111,11 @@ pub fn print_text(
     requires in_bounds { ROOM ≤ length out.old }
     ensures { Written out.old (printed text.now) out.new result }
 {
-    let read = read_text(text, addrs, nodes);
-    let Read::Table {
+    let Some(Table {
         word,
         addrs: n,
         nodes: m,
-    } = read
+    }) = read_text(text, addrs, nodes)
     else {
         return write_refused(1, 0, out);
     };

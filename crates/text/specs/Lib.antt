@@ -4,7 +4,6 @@ pub mod Over
 pub mod Put
 pub mod Write
 pub mod Name
-pub mod Key
 pub mod Rows
 pub mod Plain
 pub mod Field
