@@ -2,6 +2,7 @@ pub mod Number
 pub mod Line
 pub mod Over
 pub mod Put
+pub mod Writer
 pub mod Write
 pub mod Name
 pub mod Rows
