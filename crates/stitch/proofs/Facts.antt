@@ -4,7 +4,7 @@ use mathlib.Core.List.{List}
 use mathlib.Core.Bool.{true, false}
 use Prim.Native.Nat.{ℕ, ◌+◌, ◌-◌, ◌*◌, ◌/◌, ◌≤◌}
 use native.Mathlib.Omega.{arith}
-use lib.ListN.{length, get_or, set, take, drop, length-replicate, length-set}
+use lib.ListN.{length, get_or, set, take, drop, length-replicate, length-set, length-take}
 use lib.Seq.{length-take-le, get_or-take, ext_get_or, take_at}
 use Rattle.loops.proofs.Loop.{iter-inv}
 use Rattle.table.specs.declared.Unit.TheVariants.{Bit}
@@ -204,18 +204,17 @@ module _ (S : Source) (g1 c1 m1 z0 : List ℕ) (eg : g1 ≡ gate_buffer) (ec : c
       km = lm ∙ (ap length em ∙ cleared-long PLACES)
 
       -- the used parts lie in the buffers
-      pub used-fits : Room g b.gates × (b.gates ≤ GATES) × (constraint_size * b.constraints ≤ constraint_size * CONSTRAINTS) × (constraint_size * b.constraints ≤ length c)
-      used-fits = (omega (arith, of.gates), omega (arith, of.gates, kg), omega (arith, of.constraints, kc), omega (arith, of.constraints))
+      pub used-fits : Room g b.gates × (constraint_size * b.constraints ≤ constraint_size * CONSTRAINTS) × (constraint_size * b.constraints ≤ length c) × (length g ≡ used GATES)
+      used-fits = (omega (arith, of.gates), omega (arith, of.constraints, kc), omega (arith, of.constraints), kg)
 
-      pub done-asks : (mg : List ℕ) → mg ≡ take (used b.gates) g → lent.Done S mg (take (constraint_size * b.constraints) c) m z
-      done-asks mg e =
-          let u = used-fits in
-          let x : length mg ≡ used b.gates = ap length e ∙ length-take-le (used b.gates) g u.0 in
-          let y : length (take (constraint_size * b.constraints) c) ≡ constraint_size * b.constraints = length-take-le (constraint_size * b.constraints) c u.3 in
+      pub done-asks : (k : ℕ) (mg : List ℕ) → mg ≡ take k g → lent.Done S mg (take (constraint_size * b.constraints) c) m z
+      done-asks k mg e =
+          let x : length mg ≤ length g = rw (e, length-take k g) (omega arith) in
+          let y : length (take (constraint_size * b.constraints) c) ≡ constraint_size * b.constraints = length-take-le (constraint_size * b.constraints) c used-fits.2 in
           record {
             clear = of.accepted.clear;
-            gates = omega (arith, u.1);
-            constraints = omega (arith, u.2);
+            gates = omega (arith, kg);
+            constraints = omega (arith, used-fits.1);
             map = km;
             mapped = omega (arith, of.accepted.map, map-sum S);
             marks = lz ∙ ez;

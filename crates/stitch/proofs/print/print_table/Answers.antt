@@ -3,6 +3,7 @@ use native.Mathlib.Omega.{arith}
 use borrow.Author.Tests.{not-true, not-false}
 use lib.Seq.{length-take-le}
 use Rattle.nodes.specs.Source.{source}
+use Rattle.netlist.specs.Record.{used}
 use Rattle.stitch.specs.Printed.{cleared}
 use Rattle.stitch.proofs.Facts.{refused-fits, table-refused, used-fits, done-asks, table_done}
 use Rattle.stitch.proofs.print.print_table.Goals as goal
@@ -22,34 +23,34 @@ unfolding cleared
 overflow_mul-asked c =
     let u =
     used-fits (source c.args.table.nodes.now c.args.table.addrs.now c.args.table.word) _ _ _ _ refl refl refl refl _ _ _ _ _ (c.lower_marked-a.ensures.promise, c.lower_marked-a.ensures.marks_after) _ c.count-counted.ensures (not-false _ c.if-not-counted.false) c.lower_marked-a.auto.gates c.lower_marked-a.auto.constraints c.lower_marked-a.auto.map c.lower_marked-a.auto.marks in
-    omega (arith, u.2)
+    omega (arith, u.1)
 
 pub part-requires : goal.part-requires
 unfolding cleared
 part-requires c =
     let u =
     used-fits (source c.args.table.nodes.now c.args.table.addrs.now c.args.table.word) _ _ _ _ refl refl refl refl _ _ _ _ _ (c.lower_marked-a.ensures.promise, c.lower_marked-a.ensures.marks_after) _ c.count-counted.ensures (not-false _ c.if-not-counted.false) c.lower_marked-a.auto.gates c.lower_marked-a.auto.constraints c.lower_marked-a.auto.map c.lower_marked-a.auto.marks in
-    u.0
+    omega (arith, u.0, u.3)
 
 pub slice_bounds-constraints-end : goal.slice_bounds-constraints-end
 unfolding cleared
 slice_bounds-constraints-end c =
     let u =
     used-fits (source c.args.table.nodes.now c.args.table.addrs.now c.args.table.word) _ _ _ _ refl refl refl refl _ _ _ _ _ (c.lower_marked-a.ensures.promise, c.lower_marked-a.ensures.marks_after) _ c.count-counted.ensures (not-false _ c.if-not-counted.false) c.lower_marked-a.auto.gates c.lower_marked-a.auto.constraints c.lower_marked-a.auto.map c.lower_marked-a.auto.marks in
-    u.3
+    u.2
 
 pub slice_bounds-made-end : goal.slice_bounds-made-end
 unfolding cleared
 slice_bounds-made-end c =
     let u =
     used-fits (source c.args.table.nodes.now c.args.table.addrs.now c.args.table.word) _ _ _ _ refl refl refl refl _ _ _ _ _ (c.lower_marked-a.ensures.promise, c.lower_marked-a.ensures.marks_after) _ c.count-counted.ensures (not-false _ c.if-not-counted.false) c.lower_marked-a.auto.gates c.lower_marked-a.auto.constraints c.lower_marked-a.auto.map c.lower_marked-a.auto.marks in
-    sym (length-take-le _ _ u.3)
+    sym (length-take-le _ _ u.2)
 
 pub print_done-requires : goal.print_done-requires
 unfolding cleared
 print_done-requires c =
     let d =
-    done-asks (source c.args.table.nodes.now c.args.table.addrs.now c.args.table.word) _ _ _ _ refl refl refl refl _ _ _ _ _ (c.lower_marked-a.ensures.promise, c.lower_marked-a.ensures.marks_after) _ c.count-counted.ensures (not-false _ c.if-not-counted.false) c.lower_marked-a.auto.gates c.lower_marked-a.auto.constraints c.lower_marked-a.auto.map c.lower_marked-a.auto.marks _ c.part.ensures in
+    done-asks (source c.args.table.nodes.now c.args.table.addrs.now c.args.table.word) _ _ _ _ refl refl refl refl _ _ _ _ _ (c.lower_marked-a.ensures.promise, c.lower_marked-a.ensures.marks_after) _ c.count-counted.ensures (not-false _ c.if-not-counted.false) c.lower_marked-a.auto.gates c.lower_marked-a.auto.constraints c.lower_marked-a.auto.map c.lower_marked-a.auto.marks (used c.count-counted.result.gates) _ c.part.ensures in
     record { done = d; in_bounds = c.requires }
 
 pub returns : goal.returns
