@@ -1,9 +1,8 @@
 // A table's lines: it is lowered, and the lowering printed, or a refusal.
-ghost use Rattle.std.specs.Prelude.{◌≡◌, ◌+◌, ◌*◌, ◌≤◌, length, take};
-ghost use Rattle.table.specs.Node.{nodes};
-ghost use Rattle.text.specs.Write.{output, Written};
-ghost use Rattle.nodes.specs.Source.{source, total_of};
-ghost use Rattle.stitch.specs.Printed.{offset_list, table_lines, ROOM};
+ghost use Rattle.std.specs.Prelude.{◌≤◌, length};
+ghost use Rattle.text.specs.Write.{Written};
+ghost use Rattle.nodes.specs.Source.{source};
+ghost use Rattle.stitch.specs.Printed.{done_output, table_lines, ROOM};
 ghost use Rattle.stitch.specs.Lent.{Done};
 
 use lowering::lower::{count, lower_marked, node, number};
@@ -34,7 +33,7 @@ pub struct Lowered<'a> {
 fn print_done(table: Source, made: Lowered, out: &mut [u8]) -> usize
     requires done { Done (source table.nodes.now table.addrs.now table.word) made.gates.now made.constraints.now made.map.now made.marks.now }
     requires in_bounds { ROOM ≤ length out.old }
-    ensures { let S = source table.entry.nodes.now table.entry.addrs.now table.entry.word in Written out.old (output made.entry.gates.now (take (total_of S) made.entry.map.now) (offset_list S) (take (nodes S.table + 1) made.entry.marks.now) made.entry.constraints.now) out.new result }
+    ensures { Written out.old (done_output (source table.entry.nodes.now table.entry.addrs.now table.entry.word) made.entry.gates.now made.entry.constraints.now made.entry.map.now made.entry.marks.now) out.new result }
 {
     let mut offsets = [0usize; 514]; // at the nodes' numbers, from 0, and where the last node's bits end
     let size = table.nodes.len() / 6 + 1;

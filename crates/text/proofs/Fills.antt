@@ -90,7 +90,8 @@ module _ (size : ℕ) (good : ℕ → List (List ℕ) → Bool) (of : List (List
     unfolding pick
     line-more z r t e h q = go s (got (good (n + 1) (row s)) refl e)
       where
-        got : (x : Bool) → good (n + 1) (row s) ≡ x → pick {A = Option (List ℕ × List ℕ)} x (Some (of (row s), rest s)) None ≡ Some (r, t) → (good (n + 1) (row s) ≡ true) × (r ≡ of (row s)) × (t ≡ rest s)
+        got : (x : Bool) → good (n + 1) (row s) ≡ x → pick {A = Option (List ℕ × List ℕ)} x (Some (of (row s), rest s)) None ≡ Some (r, t)
+            → (good (n + 1) (row s) ≡ true) × (r ≡ of (row s)) × (t ≡ rest s)
         got true g e = let p = some_parts (of (row s), rest s) (r, t) e in (g, sym p.0, sym p.1)
         got false g e = absurd (cc)
 

@@ -81,7 +81,8 @@ first-same (suc n) p q h = rw (first-same n p q (λ i l. h i (omega arith)), h n
 -- a kind's number by its place
 pub kind-is : (s : List ℕ) → kind s ≡ pick (ltb (place_of s) kind_count) (Some (place_of s + 1)) None
 unfolding kind found place_of
-kind-is s = by-pick (λ r. option_map (λ (i : ℕ). i + 1) r ≡ pick (ltb (first kind_count (is_named s)) kind_count) (Some (first kind_count (is_named s) + 1)) None) (ltb (first kind_count (is_named s)) kind_count) _ _ (λ e. sym (pick_true _ _ _ e)) (λ e. sym (pick-false _ _ _ e))
+kind-is s =
+    by-pick (λ r. option_map (λ (i : ℕ). i + 1) r ≡ pick (ltb (first kind_count (is_named s)) kind_count) (Some (first kind_count (is_named s) + 1)) None) (ltb (first kind_count (is_named s)) kind_count) _ _ (λ e. sym (pick_true _ _ _ e)) (λ e. sym (pick-false _ _ _ e))
 
 -- the code's search, over references to the names
 seen_at : (ks : List (Bor (List ℕ))) (i : ℕ) (d : Bor (List ℕ)) → i < length ks → (get_or ks i d).now ≡ get_or (map (λ k. k.now) ks) i []
@@ -93,7 +94,8 @@ module _ (ks : List (Bor (List ℕ))) (e : map (λ k. k.now) ks ≡ kind_names) 
   same_first : (m : ℕ) → m ≡ length ks → found m (λ i. bytes_eq (get_or ks i d).now s) ≡ found m (is_named s)
   unfolding found is_named same
   same_first m l =
-      let f : first m (λ i. bytes_eq (get_or ks i d).now s) ≡ first m (is_named s) = first-same m _ _ (λ i h. ap (λ (k : List ℕ). bytes_eq k s) (seen_at ks i d (omega arith) ∙ ap (λ (q : List (List ℕ)). get_or q i []) e)) in
+      let f : first m (λ i. bytes_eq (get_or ks i d).now s) ≡ first m (is_named s) =
+      first-same m _ _ (λ i h. ap (λ (k : List ℕ). bytes_eq k s) (seen_at ks i d (omega arith) ∙ ap (λ (q : List (List ℕ)). get_or q i []) e)) in
       rw f
 
   pub kind_found : position (λ (k : Bor (List ℕ)). bytes_eq k.now s) ks ≡ found kind_count (is_named s)

@@ -88,7 +88,8 @@ module _ (x a b : List ℕ) where
     unfolding pick
     word_is = go (is_pair word_name (row x)) refl (sym (pair-row word_name x) ∙ e)
       where
-        go : (d : Bool) → is_pair word_name (row x) ≡ d → pick {A = Option (ℕ × List ℕ)} d (Some (pair_of (row x), rest x)) None ≡ Some (v, t) → (is_pair word_name (row x) ≡ true) × (v ≡ pair_of (row x)) × (t ≡ rest x)
+        go : (d : Bool) → is_pair word_name (row x) ≡ d → pick {A = Option (ℕ × List ℕ)} d (Some (pair_of (row x), rest x)) None ≡ Some (v, t)
+            → (is_pair word_name (row x) ≡ true) × (v ≡ pair_of (row x)) × (t ≡ rest x)
         go true g q = let h = some_parts (pair_of (row x), rest x) (v, t) q in (g, sym h.0, sym h.1)
         go false g q = absurd (cc)
 

@@ -3,7 +3,8 @@ ghost use Rattle.std.specs.Prelude.{◌≡◌, ◌+◌, ◌*◌, ◌≤◌, ◌<
 ghost use Rattle.netlist.specs.Record.{used, Room};
 ghost use Rattle.text.specs.Put.{put};
 ghost use Rattle.text.specs.Writer.{so_far};
-ghost use Rattle.text.specs.Write.{constraint_size, gate_count, constraint_count, gate_line, bits_line, next_bits, node_count, constraint_line, refused_line, each, output, Offsets, output_room, refused_room, Written};
+ghost use Rattle.text.specs.Write.{constraint_size, gate_count, constraint_count, gate_line, bits_line, next_bits, node_count, constraint_line, refused_line};
+ghost use Rattle.text.specs.Write.{each, output, Offsets, output_room, refused_room, Written};
 
 use crate::put::Writer;
 use netlist::record;

@@ -14,16 +14,20 @@ pub overflow_mul-end : goal.overflow_mul-end
 overflow_mul-end c = omega (arith, (read_fits c.args.text.now _ _ _ _ (record { addrs = refl; nodes = refl }) _ c.read_text.ensures _ _ _ c.in-Some.is).1)
 
 pub slice_bounds-nodes-end : goal.slice_bounds-nodes-end
-slice_bounds-nodes-end c = omega (arith, (read_fits c.args.text.now _ _ _ _ (record { addrs = refl; nodes = refl }) _ c.read_text.ensures _ _ _ c.in-Some.is).1, c.read_text.auto.nodes)
+slice_bounds-nodes-end c =
+    omega (arith, (read_fits c.args.text.now _ _ _ _ (record { addrs = refl; nodes = refl }) _ c.read_text.ensures _ _ _ c.in-Some.is).1, c.read_text.auto.nodes)
 
 pub slice_bounds-source-end : goal.slice_bounds-source-end
-slice_bounds-source-end c = sym (length-take-le _ _ (omega (arith, (read_fits c.args.text.now _ _ _ _ (record { addrs = refl; nodes = refl }) _ c.read_text.ensures _ _ _ c.in-Some.is).1, c.read_text.auto.nodes)))
+slice_bounds-source-end c =
+    sym (length-take-le _ _ (omega (arith, (read_fits c.args.text.now _ _ _ _ (record { addrs = refl; nodes = refl }) _ c.read_text.ensures _ _ _ c.in-Some.is).1, c.read_text.auto.nodes)))
 
 pub slice_bounds-addrs-end : goal.slice_bounds-addrs-end
-slice_bounds-addrs-end c = omega (arith, (read_fits c.args.text.now _ _ _ _ (record { addrs = refl; nodes = refl }) _ c.read_text.ensures _ _ _ c.in-Some.is).0, c.read_text.auto.addrs)
+slice_bounds-addrs-end c =
+    omega (arith, (read_fits c.args.text.now _ _ _ _ (record { addrs = refl; nodes = refl }) _ c.read_text.ensures _ _ _ c.in-Some.is).0, c.read_text.auto.addrs)
 
 pub slice_bounds-source-end-2 : goal.slice_bounds-source-end-2
-slice_bounds-source-end-2 c = sym (length-take-le _ _ (omega (arith, (read_fits c.args.text.now _ _ _ _ (record { addrs = refl; nodes = refl }) _ c.read_text.ensures _ _ _ c.in-Some.is).0, c.read_text.auto.addrs)))
+slice_bounds-source-end-2 c =
+    sym (length-take-le _ _ (omega (arith, (read_fits c.args.text.now _ _ _ _ (record { addrs = refl; nodes = refl }) _ c.read_text.ensures _ _ _ c.in-Some.is).0, c.read_text.auto.addrs)))
 
 pub returns : goal.returns
 returns c = text-table c.args.text.now _ _ _ _ (record { addrs = refl; nodes = refl }) _ c.read_text.ensures _ _ _ c.in-Some.is c.args.out.now _ _ c.print_table.ensures

@@ -13,13 +13,22 @@ offsets-total-requires c =
     record { n_bound = p.0; table_in_bounds = p.1 }
 
 pub slice_bounds-offsets-end-2 : goal.slice_bounds-offsets-end-2
-slice_bounds-offsets-end-2 c = omega (arith, few (source c.args.table.nodes.now c.args.table.addrs.now c.args.table.word) c.args.made.gates.now c.args.made.constraints.now c.args.made.map.now c.args.made.marks.now c.requires.done, c.offsets-total.auto.out)
+slice_bounds-offsets-end-2 c =
+    let t = c.args.table in
+    let m = c.args.made in
+    omega (arith, few (source t.nodes.now t.addrs.now t.word) m.gates.now m.constraints.now m.map.now m.marks.now c.requires.done, c.offsets-total.auto.out)
 
 pub slice_bounds-write-end-2 : goal.slice_bounds-write-end-2
-slice_bounds-write-end-2 c = sym (length-take-le _ _ (omega (arith, few (source c.args.table.nodes.now c.args.table.addrs.now c.args.table.word) c.args.made.gates.now c.args.made.constraints.now c.args.made.map.now c.args.made.marks.now c.requires.done, c.offsets-total.auto.out)))
+slice_bounds-write-end-2 c =
+    let t = c.args.table in
+    let m = c.args.made in
+    sym (length-take-le _ _ (omega (arith, few (source t.nodes.now t.addrs.now t.word) m.gates.now m.constraints.now m.map.now m.marks.now c.requires.done, c.offsets-total.auto.out)))
 
 pub slice_bounds-write-end-3 : goal.slice_bounds-write-end-3
-slice_bounds-write-end-3 c = sym (length-take-le _ _ (omega (arith, few (source c.args.table.nodes.now c.args.table.addrs.now c.args.table.word) c.args.made.gates.now c.args.made.constraints.now c.args.made.map.now c.args.made.marks.now c.requires.done, c.requires.done.marks)))
+slice_bounds-write-end-3 c =
+    let t = c.args.table in
+    let m = c.args.made in
+    sym (length-take-le _ _ (omega (arith, few (source t.nodes.now t.addrs.now t.word) m.gates.now m.constraints.now m.map.now m.marks.now c.requires.done, c.requires.done.marks)))
 
 pub write-requires : goal.write-requires
 write-requires c =

@@ -21,39 +21,57 @@ returns-then-not-counted c =
 pub overflow_mul-asked : goal.overflow_mul-asked
 unfolding cleared
 overflow_mul-asked c =
+    let t = c.args.table in
+    let l = c.lower_marked-a in
     let u =
-    used-fits (source c.args.table.nodes.now c.args.table.addrs.now c.args.table.word) _ _ _ _ refl refl refl refl _ _ _ _ _ (c.lower_marked-a.ensures.promise, c.lower_marked-a.ensures.marks_after) _ c.count-counted.ensures (not-false _ c.if-not-counted.false) c.lower_marked-a.auto.gates c.lower_marked-a.auto.constraints c.lower_marked-a.auto.map c.lower_marked-a.auto.marks in
+    used-fits (source t.nodes.now t.addrs.now t.word) _ _ _ _ refl refl refl refl _ _ _ _ _ (l.ensures.promise, l.ensures.marks_after) _
+    c.count-counted.ensures (not-false _ c.if-not-counted.false) l.auto.gates l.auto.constraints l.auto.map l.auto.marks in
     omega (arith, u.1)
 
 pub part-requires : goal.part-requires
 unfolding cleared
 part-requires c =
+    let t = c.args.table in
+    let l = c.lower_marked-a in
     let u =
-    used-fits (source c.args.table.nodes.now c.args.table.addrs.now c.args.table.word) _ _ _ _ refl refl refl refl _ _ _ _ _ (c.lower_marked-a.ensures.promise, c.lower_marked-a.ensures.marks_after) _ c.count-counted.ensures (not-false _ c.if-not-counted.false) c.lower_marked-a.auto.gates c.lower_marked-a.auto.constraints c.lower_marked-a.auto.map c.lower_marked-a.auto.marks in
+    used-fits (source t.nodes.now t.addrs.now t.word) _ _ _ _ refl refl refl refl _ _ _ _ _ (l.ensures.promise, l.ensures.marks_after) _
+    c.count-counted.ensures (not-false _ c.if-not-counted.false) l.auto.gates l.auto.constraints l.auto.map l.auto.marks in
     omega (arith, u.0, u.3)
 
 pub slice_bounds-constraints-end : goal.slice_bounds-constraints-end
 unfolding cleared
 slice_bounds-constraints-end c =
+    let t = c.args.table in
+    let l = c.lower_marked-a in
     let u =
-    used-fits (source c.args.table.nodes.now c.args.table.addrs.now c.args.table.word) _ _ _ _ refl refl refl refl _ _ _ _ _ (c.lower_marked-a.ensures.promise, c.lower_marked-a.ensures.marks_after) _ c.count-counted.ensures (not-false _ c.if-not-counted.false) c.lower_marked-a.auto.gates c.lower_marked-a.auto.constraints c.lower_marked-a.auto.map c.lower_marked-a.auto.marks in
+    used-fits (source t.nodes.now t.addrs.now t.word) _ _ _ _ refl refl refl refl _ _ _ _ _ (l.ensures.promise, l.ensures.marks_after) _
+    c.count-counted.ensures (not-false _ c.if-not-counted.false) l.auto.gates l.auto.constraints l.auto.map l.auto.marks in
     u.2
 
 pub slice_bounds-made-end : goal.slice_bounds-made-end
 unfolding cleared
 slice_bounds-made-end c =
+    let t = c.args.table in
+    let l = c.lower_marked-a in
     let u =
-    used-fits (source c.args.table.nodes.now c.args.table.addrs.now c.args.table.word) _ _ _ _ refl refl refl refl _ _ _ _ _ (c.lower_marked-a.ensures.promise, c.lower_marked-a.ensures.marks_after) _ c.count-counted.ensures (not-false _ c.if-not-counted.false) c.lower_marked-a.auto.gates c.lower_marked-a.auto.constraints c.lower_marked-a.auto.map c.lower_marked-a.auto.marks in
+    used-fits (source t.nodes.now t.addrs.now t.word) _ _ _ _ refl refl refl refl _ _ _ _ _ (l.ensures.promise, l.ensures.marks_after) _
+    c.count-counted.ensures (not-false _ c.if-not-counted.false) l.auto.gates l.auto.constraints l.auto.map l.auto.marks in
     sym (length-take-le _ _ u.2)
 
 pub print_done-requires : goal.print_done-requires
 unfolding cleared
 print_done-requires c =
+    let t = c.args.table in
+    let l = c.lower_marked-a in
     let d =
-    done-asks (source c.args.table.nodes.now c.args.table.addrs.now c.args.table.word) _ _ _ _ refl refl refl refl _ _ _ _ _ (c.lower_marked-a.ensures.promise, c.lower_marked-a.ensures.marks_after) _ c.count-counted.ensures (not-false _ c.if-not-counted.false) c.lower_marked-a.auto.gates c.lower_marked-a.auto.constraints c.lower_marked-a.auto.map c.lower_marked-a.auto.marks (used c.count-counted.result.gates) _ c.part.ensures in
+    done-asks (source t.nodes.now t.addrs.now t.word) _ _ _ _ refl refl refl refl _ _ _ _ _ (l.ensures.promise, l.ensures.marks_after) _
+    c.count-counted.ensures (not-false _ c.if-not-counted.false) l.auto.gates l.auto.constraints l.auto.map l.auto.marks (used c.count-counted.result.gates) _ c.part.ensures in
     record { done = d; in_bounds = c.requires }
 
 pub returns : goal.returns
 unfolding cleared
 returns c =
-    table_done (source c.args.table.nodes.now c.args.table.addrs.now c.args.table.word) _ _ _ _ refl refl refl refl _ _ _ _ _ (c.lower_marked-a.ensures.promise, c.lower_marked-a.ensures.marks_after) _ c.count-counted.ensures (not-false _ c.if-not-counted.false) _ c.part.ensures c.args.out.now _ _ c.print_done.ensures
+    let t = c.args.table in
+    let l = c.lower_marked-a in
+    table_done (source t.nodes.now t.addrs.now t.word) _ _ _ _ refl refl refl refl _ _ _ _ _ (l.ensures.promise, l.ensures.marks_after) _
+    c.count-counted.ensures (not-false _ c.if-not-counted.false) _ c.part.ensures c.args.out.now _ _ c.print_done.ensures
