@@ -1,9 +1,9 @@
 // A table's lines: it is lowered, and the lowering printed, or a refusal.
 ghost use Rattle.std.specs.Prelude.{◌≤◌, length};
 ghost use Rattle.text.specs.Write.{Written};
-ghost use Rattle.nodes.specs.Source.{source};
 ghost use Rattle.stitch.specs.Printed.{done_output, table_lines, ROOM};
 ghost use Rattle.stitch.specs.Lent.{Done};
+ghost use Rattle.stitch.specs.Read.{source_of};
 
 use lowering::lower::{count, lower_marked, node, number};
 use netlist::record;
@@ -31,9 +31,9 @@ pub struct Lowered<'a> {
 }
 
 fn print_done(table: Source, made: Lowered, out: &mut [u8]) -> usize
-    requires done { Done (source table.nodes.now table.addrs.now table.word) made.gates.now made.constraints.now made.map.now made.marks.now }
+    requires done { Done (source_of table) made.gates.now made.constraints.now made.map.now made.marks.now }
     requires in_bounds { ROOM ≤ length out.old }
-    ensures { Written out.old (done_output (source table.entry.nodes.now table.entry.addrs.now table.entry.word) made.entry.gates.now made.entry.constraints.now made.entry.map.now made.entry.marks.now) out.new result }
+    ensures { Written out.old (done_output (source_of table.entry) made.entry.gates.now made.entry.constraints.now made.entry.map.now made.entry.marks.now) out.new result }
 {
     let mut offsets = [0usize; 514]; // at the nodes' numbers, from 0, and where the last node's bits end
     let size = table.nodes.len() / 6 + 1;
@@ -52,7 +52,7 @@ fn print_done(table: Source, made: Lowered, out: &mut [u8]) -> usize
 
 pub fn print_table(table: Source, out: &mut [u8]) -> usize
     requires { ROOM ≤ length out.old }
-    ensures { Written out.old (table_lines (source table.entry.nodes.now table.entry.addrs.now table.entry.word)) out.new result }
+    ensures { Written out.old (table_lines (source_of table.entry)) out.new result }
 {
     let mut gates = [0u32; GATE_NUMBERS];
     let mut constraints = [0u32; 16384]; // 8,192 of two

@@ -82,7 +82,8 @@ first-same (suc n) p q h = rw (first-same n p q (λ i l. h i (omega arith)), h n
 pub kind-is : (s : List ℕ) → kind s ≡ pick (ltb (place_of s) kind_count) (Some (place_of s + 1)) None
 unfolding kind found place_of
 kind-is s =
-    by-pick (λ r. option_map (λ (i : ℕ). i + 1) r ≡ pick (ltb (first kind_count (is_named s)) kind_count) (Some (first kind_count (is_named s) + 1)) None) (ltb (first kind_count (is_named s)) kind_count) _ _ (λ e. sym (pick_true _ _ _ e)) (λ e. sym (pick-false _ _ _ e))
+    by-pick (λ r. option_map (λ (i : ℕ). i + 1) r ≡ pick (ltb (first kind_count (is_named s)) kind_count) (Some (first kind_count (is_named s) + 1)) None)
+    (ltb (first kind_count (is_named s)) kind_count) _ _ (λ e. sym (pick_true _ _ _ e)) (λ e. sym (pick-false _ _ _ e))
 
 -- the code's search, over references to the names
 seen_at : (ks : List (Bor (List ℕ))) (i : ℕ) (d : Bor (List ℕ)) → i < length ks → (get_or ks i d).now ≡ get_or (map (λ k. k.now) ks) i []
