@@ -28,6 +28,7 @@ fn read_some(rt: &HostRuntime, rest: &mut [u8]) -> io::Result<usize>
 }
 
 // Reads until the buffer is full, the input ends or a read fails. (A text that was cut short by a failure is none that the user gave.)
+// A `while`: what is counted are bytes, as many as a read gives.
 fn read_all(rt: &HostRuntime, buffer: &mut [u8]) -> io::Result<usize>
     ensures { IfOk result (λ n. n ≤ length buffer.new) }
 {

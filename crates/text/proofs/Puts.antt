@@ -1,9 +1,11 @@
 -- What puts come to, one after the other.
 use mathlib.Core.Path.{◌≡◌, refl, ap, sym, ◌∙◌}
 use mathlib.Core.List.{List, [], ◌∷◌, ◌++◌, append_assoc}
+use mathlib.Core.Bool.{Bool, true, false}
 use Prim.Native.Nat.{ℕ, zero, suc, ◌+◌, ◌/◌, ◌%◌, ◌≤◌, ◌<◌}
 use native.Mathlib.Omega.{arith}
 use native.Mathlib.Numerals.{add-one}
+use lib.Dec.{ltb}
 use lib.ListN.{length, get_or, take, set, length-set}
 use lib.Seq.{take-suc, take_all, sets}
 use borrow.Author.Tests.{lt-ltb, le-ltb}
@@ -22,6 +24,23 @@ put_last : (t : Text) (u : List ℕ) (b : ℕ) → push (put t u) b ≡ put t (u
 unfolding put
 put_last t [] b = refl
 put_last t (c ∷ u) b = put_last (push t c) u b
+
+-- the buffer keeps its length
+abbrev pub room_of : Text → ℕ
+room_of (text l i) = length l
+
+push_keeps : (t : Text) (b : ℕ) → room_of (push t b) ≡ room_of t
+unfolding push pick
+push_keeps (text l i) b = go (ltb i (length l))
+  where
+    go : (x : Bool) → room_of (pick x (text (set l i b) (i + 1)) (text l i)) ≡ length l
+    go true = length-set l i b
+    go false = refl
+
+pub put_keeps : (bs : List ℕ) (t : Text) → room_of (put t bs) ≡ room_of t
+unfolding put
+put_keeps [] t = refl
+put_keeps (b ∷ bs) t = put_keeps bs (push t b) ∙ push_keeps t b
 
 module _ (l : List ℕ) (i b : ℕ) where
   pub push-in : i < length l → text (set l i b) (i + 1) ≡ push (text l i) b

@@ -34,7 +34,7 @@ impl<'a> Writer<'a> {
         }
     }
 
-    // The digits of n, highest first.
+    // The digits of n, highest first. By hand: `write!` promises its bytes only where it answers Ok, and nothing promises that it does.
     fn digits(&mut self, n: u64)
         ensures after { PutDigits (so_far self.old) n (so_far self.new) }
         ensures same { self.new.out.ghost_name ≡ self.old.out.ghost_name }
