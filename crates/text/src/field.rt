@@ -48,6 +48,7 @@ pub fn name_field<'a>(text: &'a [u8], name: &[u8]) -> Option<&'a [u8]>
     if field == name { Some(rest) } else { None }
 }
 
+// Three functions and not one over a closure: that would need a `requires` of the closure and a lemma at each use, for two lines saved.
 pub fn number_field(text: &[u8]) -> Option<(u64, &[u8])>
     ensures { option_map (λ p. (p.0, p.1.now)) result ≡ number_field text.now }
 {
