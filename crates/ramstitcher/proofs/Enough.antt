@@ -7,7 +7,7 @@ use native.Mathlib.Omega.{arith}
 use lib.Dec.{T, leb, leb→le, nleb→lt}
 use lib.ListN.{length, take, length-take}
 use lib.Seq.{take_all}
-use Rattle.text.specs.declared.read.Read.TheVariants.{Refused}
+use Rattle.std.specs.Prelude.{None}
 use Rattle.text.specs.Plain.{Plain, plain_text}
 use Rattle.text.specs.Plain.Plain.{plain}
 use Rattle.text.specs.Read.{answer_of}
@@ -16,7 +16,7 @@ use Rattle.text.proofs.Sizes.{longest-text}
 use Rattle.stitch.specs.Printed.{plain_lines, printed}
 use Rattle.ramstitcher.specs.Longest.{LONGEST}
 
-refused-lines : (p : Plain) → answer_of p ≡ Refused → plain_lines p ≡ refused_line 1 0
+refused-lines : (p : Plain) → answer_of p ≡ None → plain_lines p ≡ refused_line 1 0
 unfolding answer_of plain_lines
 refused-lines (plain true w xs ns) h = cc
 refused-lines (plain false w xs ns) h = refl

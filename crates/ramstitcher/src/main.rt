@@ -28,6 +28,7 @@ fn read_some(rt: &HostRuntime, rest: &mut [u8]) -> io::Result<usize>
 }
 
 // Reads until the buffer is full, the input ends or a read fails. (A text that was cut short by a failure is none that the user gave.)
+// A `while`: what is counted are bytes, as many as a read gives.
 fn read_all(rt: &HostRuntime, buffer: &mut [u8]) -> io::Result<usize>
     ensures { IfOk result (λ n. n ≤ length buffer.new) }
 {
@@ -104,17 +105,13 @@ fn has_argument(rt: &HostRuntime) -> bool {
     }
 }
 
-// The first argument is `--help`. Of one that does not fit the array the count is 0.
+// The first argument is `--help`. One that does not fit the array is another.
 fn asks_for_help(rt: &HostRuntime) -> bool {
     let mut word = [0u8; 8];
-    let n = rt.arg(1, &mut word).unwrap_or(0);
-    (n == 6)
-        & (word[0] == b'-')
-        & (word[1] == b'-')
-        & (word[2] == b'h')
-        & (word[3] == b'e')
-        & (word[4] == b'l')
-        & (word[5] == b'p')
+    match rt.arg(1, &mut word) {
+        Ok(n) => &word[..n] == b"--help".as_slice(),
+        Err(_) => false,
+    }
 }
 
 fn main(rt: HostRuntime) -> io::Result<()> {

@@ -4,34 +4,35 @@ use mathlib.Core.List.{List}
 use mathlib.Core.Bool.{true, false}
 use Prim.Native.Nat.{ℕ, ◌+◌, ◌-◌, ◌*◌, ◌/◌, ◌≤◌}
 use native.Mathlib.Omega.{arith}
-use lib.ListN.{length, get_or, set, take, drop, replicate, length-replicate, length-set}
+use lib.ListN.{length, get_or, set, take, drop, length-replicate, length-set, length-take}
 use lib.Seq.{length-take-le, get_or-take, ext_get_or, take_at}
 use Rattle.loops.proofs.Loop.{iter-inv}
 use Rattle.table.specs.declared.Unit.TheVariants.{Bit}
-use Rattle.table.specs.Node.{nodes}
+use Rattle.table.specs.Node.{nodes, Narrow}
 use Rattle.table.specs.Size as size
 use Rattle.table.specs.Size.{offset_of, size_sum, offset_step, offsets_into}
-use Rattle.table.proofs.Whole.{fine}
+use Rattle.table.proofs.Whole.{within, fine}
 use Rattle.table.proofs.size.Laws.{stored, sum_mono, offset-end}
 use Rattle.netlist.specs.Record.{used, Room}
 use Rattle.text.specs.Plain.{Plain, plain_text}
 use Rattle.text.specs.Plain.Plain.{plain}
-use Rattle.text.specs.declared.read.Read.{Read}
-use Rattle.text.specs.declared.read.Read.TheVariants as reads
+use Rattle.std.specs.Prelude.{Option, Some, None}
+use Rattle.text.specs.declared.read.Table as reads
 use Rattle.text.specs.Read.{addr_size, node_size, answer_of, read_text, addr_list, node_table, word_width}
 use Rattle.text.specs.Read.Stored.{stored as kept}
 use Rattle.text.specs.Write.{Offsets, constraint_size, gate_count, node_count, constraint_count, output_room, refused_room, refused_line, output, Written}
-use Rattle.text.proofs.Answers.{TableRead, table-read, refused-read, plain_of}
+use Rattle.text.proofs.Answers.{TableRead, table-read, refused-read, table, plain_of}
 use Rattle.text.proofs.Sizes.{room}
 use Rattle.lowering.specs.declared.lower.Answer.{Answer}
 use Rattle.lowering.specs.declared.lower.Answer.TheVariants.{Done, Table, NothingAsked, GateRoom, BitRoom, ConstraintRoom}
-use Rattle.nodes.specs.Source.{Source, source, listed}
-use Rattle.lowering.specs.Lower.{Run, run, number, node, counts_of, lowered, lower_all, marked, Accepted}
+use Rattle.nodes.specs.Source.{Source, source, listed, total_of}
+use Rattle.lowering.specs.Lower.{Run, run, number, node, counts_of, lowered, lower_all, marked}
 use Rattle.lowering.specs.Promise.{Promise}
 use Rattle.lowering.proofs.LowerFacts.{map-sum}
 use Rattle.lowering.proofs.Answers.{Made, made}
 use Rattle.stitch.specs.Printed.{GATES, PLACES, CONSTRAINTS, ADDRS, NODES, cleared, gate_buffer, constraint_buffer, bit_map, offset_list, done_lines, refusal, answer_lines, run_lines, table_lines, plain_lines, printed, ROOM}
-use Rattle.stitch.specs.Lent.{TextRoom, Lent}
+use Rattle.stitch.specs.Lent as lent
+use Rattle.stitch.specs.Lent.{TextRoom}
 use Rattle.lowering.specs.declared.lower.Counts.{Counts}
 
 -- a refusal's line fits
@@ -84,65 +85,61 @@ module _ (S : Source) where
       ext_get_or 0 (take (N + 1 + 1) (into o)) (into z) (omega arith)
       (λ i lt. get_or-take (N + 1 + 1) (into o) i 0 (omega arith) ∙ ((held o h).at i (omega arith) ∙ sym ((held z q).at i (omega arith))))
 
-module _ (S : Source) (g c m z o : List ℕ) (h : Accepted S g c m) (l : Lent g c m z o) (total : ℕ) (x : List ℕ) (e : (total ≡ size_sum Bit S.table (listed S) S.word) × (x ≡ into S o)) where
+module _ (S : Source) (g c m z : List ℕ) (l : lent.Done S g c m z) where
   pub few : nodes S.table ≤ NODES
-  few = (fine S.table S.addrs S.word h.clear).few
+  few = (fine S.table S.addrs S.word l.clear).few
 
-  pub total-fits : total ≤ length m
-  total-fits = omega (arith, h.map, map-sum S, e.0)
+  pub offsets-asks : (o : List ℕ) → length o ≡ NODES + 2 → ((listed S ≤ 64) × (S.word ≤ 64) × (nodes S.table ≤ 512) × Narrow S.table) × (nodes S.table + 2 ≤ length o)
+  offsets-asks o e = let f = fine S.table S.addrs S.word l.clear in ((f.short, (within S.table S.addrs S.word l.clear).4, f.few, f.narrow), omega (arith, few))
 
-  offsets-fine : Offsets (take (nodes S.table + 1 + 1) x) (take total m) (length (take (nodes S.table + 1) z))
-  offsets-fine =
-      let n : ℕ = nodes S.table in
-      let lz : length (take (n + 1) z) ≡ n + 1 = length-take-le (n + 1) z (omega (arith, l.marks, few)) in
-      let lm : length (take total m) ≡ total = length-take-le total m total-fits in
-      let lx : length x ≡ length o = ap length e.1 ∙ into-long S o in
-      let lt : length (take (n + 1 + 1) x) ≡ n + 1 + 1 = length-take-le (n + 1 + 1) x (omega (arith, l.offsets, few)) in
-      record {
-        all = omega arith;
-        up = λ i q.
-            let a : get_or (take (n + 1 + 1) x) i 0 ≡ offset S i = at i (omega arith) in
-            let b : get_or (take (n + 1 + 1) x) (i + 1) 0 ≡ offset S (i + 1) = at (i + 1) (omega arith) in
-            let u : offset S i ≤ offset S (i + 1) = up S i (i + 1) (omega arith) in
-            let v : offset S (i + 1) ≤ offset S (n + 1) = up S (i + 1) (n + 1) (omega arith) in
-            let w : offset S (n + 1) ≡ total = offset-end Bit S.table (listed S) S.word ∙ sym e.0 in
-            (omega arith, omega arith);
-      }
-    where
-      at : (i : ℕ) → i ≤ nodes S.table + 1 → get_or (take (nodes S.table + 1 + 1) x) i 0 ≡ offset S i
-      at i q =
-          get_or-take (nodes S.table + 1 + 1) x i 0 (omega arith)
-          ∙ (ap (λ (y : List ℕ). get_or y i 0) e.1 ∙ (held S o (omega (arith, l.offsets, few))).at i q)
+  module _ (o : List ℕ) (long : length o ≡ NODES + 2) (total : ℕ) (x : List ℕ) (e : (total ≡ size_sum Bit S.table (listed S) S.word) × (x ≡ into S o)) where
+    pub total-fits : total ≤ length m
+    total-fits = omega (arith, l.mapped, e.0)
 
-  module _ (n k : ℕ) (p : Room g n) (q : constraint_size * k ≤ length c) (mg : List ℕ) (eg : mg ≡ take (used n) g) where
+    offsets-fine : Offsets (take (nodes S.table + 1 + 1) x) (take total m) (length (take (nodes S.table + 1) z))
+    offsets-fine =
+        let n : ℕ = nodes S.table in
+        let lz : length (take (n + 1) z) ≡ n + 1 = length-take-le (n + 1) z (omega (arith, l.marks, few)) in
+        let lm : length (take total m) ≡ total = length-take-le total m total-fits in
+        let lx : length x ≡ length o = ap length e.1 ∙ into-long S o in
+        let lt : length (take (n + 1 + 1) x) ≡ n + 1 + 1 = length-take-le (n + 1 + 1) x (omega (arith, few)) in
+        record {
+          all = omega arith;
+          up = λ i q.
+              let a : get_or (take (n + 1 + 1) x) i 0 ≡ offset S i = at i (omega arith) in
+              let b : get_or (take (n + 1 + 1) x) (i + 1) 0 ≡ offset S (i + 1) = at (i + 1) (omega arith) in
+              let u : offset S i ≤ offset S (i + 1) = up S i (i + 1) (omega arith) in
+              let v : offset S (i + 1) ≤ offset S (n + 1) = up S (i + 1) (n + 1) (omega arith) in
+              let w : offset S (n + 1) ≡ total = offset-end Bit S.table (listed S) S.word ∙ sym e.0 in
+              (omega arith, omega arith);
+        }
+      where
+        at : (i : ℕ) → i ≤ nodes S.table + 1 → get_or (take (nodes S.table + 1 + 1) x) i 0 ≡ offset S i
+        at i q =
+            get_or-take (nodes S.table + 1 + 1) x i 0 (omega arith)
+            ∙ (ap (λ (y : List ℕ). get_or y i 0) e.1 ∙ (held S o (omega (arith, few))).at i q)
+
     pub write-asks : (out : List ℕ) → ROOM ≤ length out
         → Offsets (take (nodes S.table + 1 + 1) x) (take total m) (length (take (nodes S.table + 1) z))
-        × (output_room (gate_count mg) (node_count (take (nodes S.table + 1) z)) (length (take total m)) (constraint_count (take (constraint_size * k) c)) ≤ length out)
+        × (output_room (gate_count g) (node_count (take (nodes S.table + 1) z)) (length (take total m)) (constraint_count c) ≤ length out)
     write-asks out r =
-        let a : length mg ≡ used n = ap length eg ∙ length-take-le (used n) g p in
         let b : length (take (nodes S.table + 1) z) ≡ nodes S.table + 1 = length-take-le (nodes S.table + 1) z (omega (arith, l.marks, few)) in
-        let d : length (take total m) ≡ total = length-take-le total m total-fits in
-        let f : length (take (constraint_size * k) c) ≡ constraint_size * k = length-take-le (constraint_size * k) c q in (
+        let d : length (take total m) ≡ total = length-take-le total m total-fits in (
           offsets-fine,
           omega (
             arith,
-            room (gate_count mg) (node_count (take (nodes S.table + 1) z)) (length (take total m)) (constraint_count (take (constraint_size * k) c))
+            room (gate_count g) (node_count (take (nodes S.table + 1) z)) (length (take total m)) (constraint_count c)
                 (omega (arith, l.gates)) (omega (arith, few)) (omega (arith, l.map, total-fits)) (omega (arith, l.constraints)),
           ),
         )
 
-    pub done-written : (out after : List ℕ) (r : ℕ) → Written out (output mg (take total m) (take (nodes S.table + 1 + 1) x) (take (nodes S.table + 1) z) (take (constraint_size * k) c)) after r
-        → Written out (done_lines S n k g c m (take (nodes S.table + 1) z)) after r
-    unfolding done_lines
+    pub done-written : (out after : List ℕ) (r : ℕ) → Written out (output g (take total m) (take (nodes S.table + 1 + 1) x) (take (nodes S.table + 1) z) c) after r
+        → Written out (output g (take (total_of S) m) (offset_list S) (take (nodes S.table + 1) z) c) after r
     done-written out after r w =
-        let t : take (nodes S.table + 1 + 1) x ≡ offset_list S = ap (take (nodes S.table + 1 + 1)) e.1 ∙ front S o (omega (arith, l.offsets, few)) in
-        rw (eg, e.0, t) at w
+        let t : take (nodes S.table + 1 + 1) x ≡ offset_list S = ap (take (nodes S.table + 1 + 1)) e.1 ∙ front S o (omega (arith, few)) in
+        rw (e.0, t) at w
 
 -- ---- a table
-
-clear-as : (n : ℕ) (l x : List ℕ) → length l ≡ n → x ≡ replicate (length l) 0 → x ≡ cleared n
-unfolding cleared
-clear-as n l x h e = rw h at e
 
 run-lines : (S : Source) (g c m : List ℕ) (a : Answer) (g' c' m' : List ℕ) → run a g' c' m' ≡ lower_all S g c m
     → answer_lines S g' c' m' (lowered S g c).seen a ≡ run_lines S (lowered S g c).seen (lower_all S g c m)
@@ -179,14 +176,11 @@ front-marks : (S : Source) (g c z z' : List ℕ) (n k : ℕ) → length (lowered
 unfolding marked
 front-marks S g c z z' n k long e = ap (take (nodes S.table + 1)) e ∙ take_at (lowered S g c).seen (drop (nodes S.table + 1) z) (nodes S.table + 1) long
 
--- from the lent buffers (g0, c0, m0, z0, o) over the cleared ones (g1, c1, m1) to what the lowering left (g, c, m, z)
-module _ (S : Source) (g0 c0 m0 z0 o g1 c1 m1 : List ℕ) (a : Answer) (g c m z : List ℕ) (l : Lent g0 c0 m0 z0 o)
-    (eg : g1 ≡ replicate (length g0) 0) (ec : c1 ≡ replicate (length c0) 0) (em : m1 ≡ replicate (length m0) 0)
+-- from the cleared buffers (g1, c1, m1) and the marks z0 to what the lowering left (g, c, m, z)
+module _ (S : Source) (g1 c1 m1 z0 : List ℕ) (eg : g1 ≡ gate_buffer) (ec : c1 ≡ constraint_buffer) (em : m1 ≡ bit_map) (ez : length z0 ≡ NODES + 1) (a : Answer) (g c m z : List ℕ)
     (p : Promise S g1 c1 m1 a g c m × (z ≡ marked S g1 c1 z0 a)) (b : Counts) (eb : b ≡ counts_of a) where
   lines : answer_lines S g c m (lowered S g1 c1).seen a ≡ table_lines S
-  lines =
-      run-lines S g1 c1 m1 a g c m p.0.answer
-      ∙ lines_clear S g1 c1 m1 (clear-as (used GATES) g0 g1 l.gates eg) (clear-as (constraint_size * CONSTRAINTS) c0 c1 l.constraints ec) (clear-as PLACES m0 m1 l.map em)
+  lines = run-lines S g1 c1 m1 a g c m p.0.answer ∙ lines_clear S g1 c1 m1 eg ec em
 
   pub table-refused : b.done ≡ false → (u v : ℕ) → u ≡ number a → v ≡ node a → (out after : List ℕ) (r : ℕ) → Written out (refused_line u v) after r → Written out (table_lines S) after r
   table-refused h u v eu ev out after r w =
@@ -199,47 +193,65 @@ module _ (S : Source) (g0 c0 m0 z0 o g1 c1 m1 : List ℕ) (a : Answer) (g c m z 
     of : Made S g1 c1 m1 b.gates b.constraints
     of = made S g1 c1 m1 b.gates b.constraints a g c m p.0.answer is
 
-    pub done-asks : length g ≡ length g1 → length c ≡ length c1 → length m ≡ length m1 → length z ≡ length z0
-        → Accepted S g c m × (Room g b.gates × (constraint_size * b.constraints ≤ length c)) × Lent g c m z o
-    done-asks lg lc lm lz =
-        let kg : length g ≡ length g0 = lg ∙ (ap length eg ∙ length-replicate (length g0) 0) in
-        let kc : length c ≡ length c0 = lc ∙ (ap length ec ∙ length-replicate (length c0) 0) in
-        let km : length m ≡ length m0 = lm ∙ (ap length em ∙ length-replicate (length m0) 0) in (
-          record { clear = of.accepted.clear; asked = of.accepted.asked; gates = omega (arith, of.accepted.gates); map = omega (arith, of.accepted.map); constraints = omega (arith, of.accepted.constraints) },
-          (omega (arith, of.gates), omega (arith, of.constraints)),
-          record { gates = kg ∙ l.gates; constraints = kc ∙ l.constraints; map = km ∙ l.map; marks = lz ∙ l.marks; offsets = l.offsets },
-        )
+    module _ (lg : length g ≡ length g1) (lc : length c ≡ length c1) (lm : length m ≡ length m1) (lz : length z ≡ length z0) where
+      kg : length g ≡ used GATES
+      kg = lg ∙ (ap length eg ∙ cleared-long (used GATES))
 
-    pub table_done : (out after : List ℕ) (r : ℕ) → Written out (done_lines S b.gates b.constraints g c m (take (nodes S.table + 1) z)) after r → Written out (table_lines S) after r
-    table_done out after r w =
+      kc : length c ≡ constraint_size * CONSTRAINTS
+      kc = lc ∙ (ap length ec ∙ cleared-long (constraint_size * CONSTRAINTS))
+
+      km : length m ≡ PLACES
+      km = lm ∙ (ap length em ∙ cleared-long PLACES)
+
+      -- the used parts lie in the buffers
+      pub used-fits : Room g b.gates × (constraint_size * b.constraints ≤ constraint_size * CONSTRAINTS) × (constraint_size * b.constraints ≤ length c) × (length g ≡ used GATES)
+      used-fits = (omega (arith, of.gates), omega (arith, of.constraints, kc), omega (arith, of.constraints), kg)
+
+      pub done-asks : (k : ℕ) (mg : List ℕ) → mg ≡ take k g → lent.Done S mg (take (constraint_size * b.constraints) c) m z
+      done-asks k mg e =
+          let x : length mg ≤ length g = rw (e, length-take k g) (omega arith) in
+          let y : length (take (constraint_size * b.constraints) c) ≡ constraint_size * b.constraints = length-take-le (constraint_size * b.constraints) c used-fits.2 in
+          record {
+            clear = of.accepted.clear;
+            gates = omega (arith, kg);
+            constraints = omega (arith, used-fits.1);
+            map = km;
+            mapped = omega (arith, of.accepted.map, map-sum S);
+            marks = lz ∙ ez;
+          }
+
+    pub table_done : (mg : List ℕ) → mg ≡ take (used b.gates) g → (out after : List ℕ) (r : ℕ)
+        → Written out (output mg (take (total_of S) m) (offset_list S) (take (nodes S.table + 1) z) (take (constraint_size * b.constraints) c)) after r → Written out (table_lines S) after r
+    unfolding done_lines
+    table_done mg e out after r w =
         let f : take (nodes S.table + 1) z ≡ (lowered S g1 c1).seen = front-marks S g1 c1 z0 z b.gates b.constraints of.marks (subst (λ (x : Answer). z ≡ marked S g1 c1 z0 x) is p.1) in
-        as-printed out after r _ _ (done-lines S g c m (lowered S g1 c1).seen a b.gates b.constraints is ∙ lines) (rw f at w)
+        as-printed out after r _ _ (done-lines S g c m (lowered S g1 c1).seen a b.gates b.constraints is ∙ lines) (rw (e, f) at w)
 
 -- ---- a text
 
-plain-refused : (p : Plain) → answer_of p ≡ reads.Refused → refused_line 1 0 ≡ plain_lines p
+plain-refused : (p : Plain) → answer_of p ≡ None → refused_line 1 0 ≡ plain_lines p
 unfolding answer_of plain_lines
 plain-refused (plain true w xs ns) e = absurd (let i : ◌≡◌ {A = ℕ} 0 1 = cc in omega arith)
 plain-refused (plain false w xs ns) e = refl
 
-plain-table : (p : Plain) (w n m : ℕ) → answer_of p ≡ reads.Table w n m → table_lines (source (node_table p) (addr_list p) (word_width p)) ≡ plain_lines p
+plain-table : (p : Plain) (w n m : ℕ) → answer_of p ≡ Some (table w n m) → table_lines (source (node_table p) (addr_list p) (word_width p)) ≡ plain_lines p
 unfolding answer_of plain_lines
 plain-table (plain true v xs ns) w n m e = refl
 plain-table (plain false v xs ns) w n m e = absurd (let i : ◌≡◌ {A = ℕ} 0 1 = cc in omega arith)
 
-module _ (x a b c d : List ℕ) (l : TextRoom a b) (r : Read) (e : kept r c d ≡ read_text x a b) where
+module _ (x a b c d : List ℕ) (l : TextRoom a b) (r : Option reads.Table) (e : kept r c d ≡ read_text x a b) where
   same-plain : plain_of x a b ≡ plain_text ADDRS NODES x
   same-plain =
       let p : length a / addr_size ≡ ADDRS = omega (arith, l.addrs) in
       let q : length b / node_size ≡ NODES = omega (arith, l.nodes) in
       rw (p, q)
 
-  pub text-refused : r ≡ reads.Refused → (out after : List ℕ) (n : ℕ) → Written out (refused_line 1 0) after n → Written out (printed x) after n
+  pub text-refused : r ≡ None → (out after : List ℕ) (n : ℕ) → Written out (refused_line 1 0) after n → Written out (printed x) after n
   unfolding printed
   text-refused h out after n w =
       as-printed out after n _ _ (plain-refused (plain_of x a b) (refused-read x a b c d (rw h at e)) ∙ ap plain_lines same-plain) w
 
-  module _ (w n m : ℕ) (h : r ≡ reads.Table w n m) where
+  module _ (w n m : ℕ) (h : r ≡ Some (table w n m)) where
     read_as : TableRead x a b c d w n m
     read_as = table-read x a b c d w n m (rw h at e)
 

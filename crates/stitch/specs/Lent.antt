@@ -1,6 +1,9 @@
--- The buffers that inner functions are lent, by their lengths alone.
-use Rattle.std.specs.Prelude.{◌≡◌, List, ℕ, ◌+◌, ◌*◌, length}
+-- What inner functions are lent.
+use Rattle.std.specs.Prelude.{◌≡◌, List, ℕ, ◌+◌, ◌*◌, ◌≤◌, length}
+use Rattle.table.specs.Sheet.{table_fault}
+use Rattle.table.specs.declared.Fault.TheVariants.{Clear}
 use Rattle.netlist.specs.Record.{used}
+use Rattle.nodes.specs.Source.{Source, total_of}
 use Rattle.text.specs.Read.{addr_size, node_size}
 use Rattle.text.specs.Write.{constraint_size}
 use Rattle.stitch.specs.Printed.{GATES, PLACES, CONSTRAINTS, ADDRS, NODES}
@@ -10,10 +13,11 @@ pub record TextRoom (a b : List ℕ) : Type 0 where
   pub addrs : length a ≡ addr_size * ADDRS
   pub nodes : length b ≡ node_size * NODES
 
--- what is lowered into; marks and offsets stand at the nodes' numbers, with 0 and for the offsets the end
-pub record Lent (g c m z o : List ℕ) : Type 0 where
-  pub gates : length g ≡ used GATES
-  pub constraints : length c ≡ constraint_size * CONSTRAINTS
+-- a table that was lowered: the gates and constraints of it, the whole map and the marks, which stand at the nodes' numbers, with 0
+pub record Done (S : Source) (g c m z : List ℕ) : Type 0 where
+  pub clear : table_fault S.table S.addrs S.word ≡ Clear
+  pub gates : length g ≤ used GATES
+  pub constraints : length c ≤ constraint_size * CONSTRAINTS
   pub map : length m ≡ PLACES
+  pub mapped : total_of S ≤ length m
   pub marks : length z ≡ NODES + 1
-  pub offsets : length o ≡ NODES + 2

@@ -47,6 +47,10 @@ bit_map = cleared PLACES
 unfoldable pub offset_list : Source → List ℕ
 offset_list S = offsets_into Bit S.table (listed S) S.word (cleared (nodes S.table + 2))
 
+-- a lowering that is done, by the used parts g and c of its lists, and the whole map and marks
+abbrev pub done_output : Source → List ℕ → List ℕ → List ℕ → List ℕ → List ℕ
+done_output S g c m z = output g (take (total_of S) m) (offset_list S) (take (nodes S.table + 1) z) c
+
 -- a lowering that is done: n gates, k constraints, in the buffers g, c and m; z has a mark at each reached node
 unfoldable pub done_lines : Source → ℕ → ℕ → List ℕ → List ℕ → List ℕ → List ℕ → List ℕ
 done_lines S n k g c m z = output (take (used n) g) (take (total_of S) m) (offset_list S) z (take (constraint_size * k) c)

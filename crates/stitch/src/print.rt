@@ -1,135 +1,85 @@
-// A text's lines, over buffers that are lent: a table read, lowered and printed, or a refusal.
-ghost use Rattle.std.specs.Prelude.{◌≡◌, ◌+◌, ◌*◌, ◌≤◌, length, take};
-ghost use Rattle.table.specs.Node.{nodes};
-ghost use Rattle.netlist.specs.Record.{Room};
-ghost use Rattle.text.specs.Write.{constraint_size, Written};
-ghost use Rattle.nodes.specs.Source.{source};
-ghost use Rattle.lowering.specs.Lower.{Accepted};
-ghost use Rattle.stitch.specs.Printed.{done_lines, table_lines, printed, ROOM};
-ghost use Rattle.stitch.specs.Lent.{TextRoom, Lent};
+// A table's lines: it is lowered, and the lowering printed, or a refusal.
+ghost use Rattle.std.specs.Prelude.{◌≤◌, length};
+ghost use Rattle.text.specs.Write.{Written};
+ghost use Rattle.stitch.specs.Printed.{done_output, table_lines, ROOM};
+ghost use Rattle.stitch.specs.Lent.{Done};
+ghost use Rattle.stitch.specs.Read.{source_of};
 
-use lowering::fill::fill;
 use lowering::lower::{count, lower_marked, node, number};
 use netlist::record;
 use table::Unit;
-use text::read::{Read, read_text};
 use text::write::{write, write_refused};
 
-// A lowering that is done, with n gates and k constraints.
-fn print_done(
-    table: &[u64],
-    addrs: &[u64],
-    word: u64,
-    n: usize,
-    k: usize,
-    gates: &[u32],
-    constraints: &[u32],
-    map: &[u32],
-    marks: &[u8],
-    offsets: &mut [usize],
-    out: &mut [u8],
-) -> usize
-    requires accepted { Accepted (source table.now addrs.now word) gates.now constraints.now map.now }
-    requires room { Room gates.now n × (constraint_size * k ≤ length constraints.now) }
-    requires lent { Lent gates.now constraints.now map.now marks.now offsets.old }
+// Room for 4,096 gates.
+const GATE_NUMBERS: usize = 4096 * record::SIZE;
+
+// A table as it was read: its nodes, six numbers each, the listed addresses and the word width.
+#[derive(Clone, Copy)]
+pub struct Source<'a> {
+    pub nodes: &'a [u64],
+    pub addrs: &'a [u64],
+    pub word: u64,
+}
+
+// A lowering that is done: its gates and constraints, and the whole map and marks.
+#[derive(Clone, Copy)]
+pub struct Lowered<'a> {
+    pub gates: &'a [u32],
+    pub constraints: &'a [u32],
+    pub map: &'a [u32],
+    pub marks: &'a [u8],
+}
+
+fn print_done(table: Source, made: Lowered, out: &mut [u8]) -> usize
+    requires done { Done (source_of table) made.gates.now made.constraints.now made.map.now made.marks.now }
     requires in_bounds { ROOM ≤ length out.old }
-    ensures { Written out.old (done_lines (source table.now addrs.now word) n k gates.now constraints.now map.now (take (nodes table.now + 1) marks.now)) out.new result }
+    ensures { Written out.old (done_output (source_of table.entry) made.entry.gates.now made.entry.constraints.now made.entry.map.now made.entry.marks.now) out.new result }
 {
-    let size = table.len() / 6 + 1;
+    let mut offsets = [0usize; 514]; // at the nodes' numbers, from 0, and where the last node's bits end
+    let size = table.nodes.len() / 6 + 1;
     let end = size + 1;
-    let listed = addrs.len() as u64;
-    let total = table::size::offsets(Unit::Bit, table, listed, word, offsets);
-    let made = record::part(gates, n);
-    let asked = 2 * k;
+    let listed = table.addrs.len() as u64;
+    let total = table::size::offsets(Unit::Bit, table.nodes, listed, table.word, &mut offsets);
     write(
-        made,
-        &map[..total],
+        made.gates,
+        &made.map[..total],
         &offsets[..end],
-        &marks[..size],
-        &constraints[..asked],
+        &made.marks[..size],
+        made.constraints,
         out,
     )
 }
 
-// A table.
-fn print_table(
-    table: &[u64],
-    addrs: &[u64],
-    word: u64,
-    gates: &mut [u32],
-    constraints: &mut [u32],
-    map: &mut [u32],
-    marks: &mut [u8],
-    offsets: &mut [usize],
-    out: &mut [u8],
-) -> usize
-    requires lent { Lent gates.old constraints.old map.old marks.old offsets.old }
-    requires in_bounds { ROOM ≤ length out.old }
-    ensures { Written out.old (table_lines (source table.now addrs.now word)) out.new result }
+pub fn print_table(table: Source, out: &mut [u8]) -> usize
+    requires { ROOM ≤ length out.old }
+    ensures { Written out.old (table_lines (source_of table.entry)) out.new result }
 {
-    fill(gates, 0);
-    fill(constraints, 0);
-    fill(map, 0);
-    let a = lower_marked(table, addrs, word, gates, constraints, map, marks);
-    let made = count(a);
-    if !made.done {
+    let mut gates = [0u32; GATE_NUMBERS];
+    let mut constraints = [0u32; 16384]; // 8,192 of two
+    let mut map = [0u32; 16384];
+    let mut marks = [0u8; 513]; // at the nodes' numbers, from 0
+    let a = lower_marked(
+        table.nodes,
+        table.addrs,
+        table.word,
+        &mut gates,
+        &mut constraints,
+        &mut map,
+        &mut marks,
+    );
+    let counted = count(a);
+    if !counted.done {
         let refusal = number(a);
         let place = node(a) as u64;
         return write_refused(refusal, place, out);
     }
-    let n = made.gates;
-    let k = made.constraints;
-    print_done(
-        table,
-        addrs,
-        word,
-        n,
-        k,
-        gates,
-        constraints,
-        map,
-        marks,
-        offsets,
-        out,
-    )
-}
-
-// A text, whatever its bytes are.
-pub fn print_text(
-    text: &[u8],
-    addrs: &mut [u64],
-    nodes: &mut [u64],
-    gates: &mut [u32],
-    constraints: &mut [u32],
-    map: &mut [u32],
-    marks: &mut [u8],
-    offsets: &mut [usize],
-    out: &mut [u8],
-) -> usize
-    requires text_room { TextRoom addrs.old nodes.old }
-    requires lent { Lent gates.old constraints.old map.old marks.old offsets.old }
-    requires in_bounds { ROOM ≤ length out.old }
-    ensures { Written out.old (printed text.now) out.new result }
-{
-    let read = read_text(text, addrs, nodes);
-    let Read::Table {
-        word,
-        addrs: n,
-        nodes: m,
-    } = read
-    else {
-        return write_refused(1, 0, out);
+    let n = counted.gates;
+    let asked = 2 * counted.constraints;
+    let made = Lowered {
+        gates: record::part(&gates, n),
+        constraints: &constraints[..asked],
+        map: &map,
+        marks: &marks,
     };
-    let end = 6 * m;
-    print_table(
-        &nodes[..end],
-        &addrs[..n],
-        word,
-        gates,
-        constraints,
-        map,
-        marks,
-        offsets,
-        out,
-    )
+    print_done(table, made, out)
 }

@@ -9,8 +9,7 @@ use lib.ListN.{length, get_or, drop, length-drop, drop_of_length-le}
 use borrow.Author.Tests.{eqb-true, ltb-true, leb-true}
 use Rattle.loops.specs.Loop.{pick}
 use Rattle.loops.proofs.Loop.{both, first-true}
-use Rattle.text.specs.declared.number.Num.{Num}
-use Rattle.text.specs.declared.number.Num.TheVariants.{Bad, Is}
+use Rattle.std.specs.Prelude.{Option, Some, None}
 use Rattle.text.specs.Number.{decimal, number, valid, value}
 use Rattle.text.specs.Name.{same, word_name, addr_name, node_name, kind_names, kind_count, is_named, place_of}
 use Rattle.text.specs.Rows.{rows}
@@ -22,9 +21,9 @@ use Rattle.text.proofs.Numbers.{number-written}
 use Rattle.text.proofs.Joins.{joined-rows}
 
 -- a valid number is written by its value
-valid-written : (s : List ℕ) (n : Num) → number s ≡ n → valid n ≡ true → (s ≡ decimal (value n)) × (value n < 2 ^ 64)
-valid-written s Bad e h = absurd (let z : ◌≡◌ {A = ℕ} 0 1 = cc in omega arith)
-valid-written s (Is v) e h = number-written s v e
+valid-written : (s : List ℕ) (n : Option ℕ) → number s ≡ n → valid n ≡ true → (s ≡ decimal (value n)) × (value n < 2 ^ 64)
+valid-written s None e h = absurd (let z : ◌≡◌ {A = ℕ} 0 1 = cc in omega arith)
+valid-written s (Some v) e h = number-written s v e
 
 two : (r : List (List ℕ)) → length r ≡ 2 → r ≡ get_or r 0 [] ∷ get_or r 1 [] ∷ []
 two [] e = absurd (omega arith)

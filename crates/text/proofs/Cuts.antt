@@ -1,18 +1,16 @@
 -- A text's first line, cut into its fields one after the other.
-use mathlib.Core.Path.{◌≡◌, refl, ap, sym, ◌∙◌}
+use mathlib.Core.Path.{◌≡◌, refl}
 use mathlib.Core.List.{List, [], ◌∷◌}
 use mathlib.Core.Bool.{Bool, true, false}
-use Prim.Native.Nat.{ℕ, suc, ◌+◌, ◌-◌, ◌≤◌, ◌<◌}
+use Prim.Native.Nat.{ℕ, suc, ◌≤◌}
 use native.Mathlib.Omega.{arith}
-use native.Mathlib.Decide.{dec_lt}
 use lib.Dec.{eqb}
-use lib.ListN.{length, get_or, take, drop, length-drop, drop_of_length-le, get_or-eq_default}
-use lib.Seq.{drop-drop, get_or-drop}
-use borrow.Author.Tests.{lt-ltb, le-ltb, eqb-true}
+use lib.ListN.{length, take, drop}
+use borrow.Author.Tests.{eqb-true}
+use Rattle.std.specs.Prelude.{Some, None}
 use Rattle.loops.specs.Loop.{pick}
-use Rattle.text.specs.declared.field.Part.{Part}
 use Rattle.text.specs.Rows.{onto, lines, fields, each_fields, rows}
-use Rattle.text.specs.Field.{parts, span, end_of, part_at}
+use Rattle.text.specs.Field.{parts, span, if_tab, if_end, inner, last}
 
 -- of a text: the first field, whether a tab follows it, and what follows that
 unfoldable pub field : List ℕ → List ℕ
@@ -106,63 +104,31 @@ row-some s = rw (cut s).0 (omega arith)
 pub row_one : (s : List ℕ) → length (row s) ≡ 1 → tabbed s ≡ false
 row_one s e = row-short s (tabbed s) refl (row-some (after s)) e
 
--- the same by a place in the text
-tab-is : (s : List ℕ) → eqb (get_or s (span s) 0) 9 ≡ tabbed s
-unfolding span tabbed pick
-tab-is [] = refl
-tab-is (c ∷ cs) = go (parts c) (tab-is cs)
+-- what the code finds: a field that a tab follows, and a line's last field
+tab-after : (f s : List ℕ) → if_tab f (drop (span s) s) ≡ pick (tabbed s) (Some (f, after s)) None
+unfolding if_tab span tabbed after pick
+tab-after f [] = refl
+tab-after f (c ∷ cs) = go (parts c) (tab-after f cs)
   where
-    go : (x : Bool) → eqb (get_or cs (span cs) 0) 9 ≡ tabbed cs → eqb (get_or (c ∷ cs) (pick x 0 (suc (span cs))) 0) 9 ≡ pick x (eqb c 9) (tabbed cs)
+    go : (x : Bool) → if_tab f (drop (span cs) cs) ≡ pick (tabbed cs) (Some (f, after cs)) None
+        → if_tab f (drop (pick x 0 (suc (span cs))) (c ∷ cs)) ≡ pick (pick x (eqb c 9) (tabbed cs)) (Some (f, pick x cs (after cs))) None
     go true e = refl
     go false e = e
 
-after_is : (s : List ℕ) → drop (suc (span s)) s ≡ after s
-unfolding span after pick
-after_is [] = refl
-after_is (c ∷ cs) = go (parts c) (after_is cs)
+end-after : (f s : List ℕ) → if_end f (drop (span s) s) ≡ pick (tabbed s) None (Some (f, after s))
+unfolding if_end span tabbed after pick
+end-after f [] = refl
+end-after f (c ∷ cs) = go (parts c) (end-after f cs)
   where
-    go : (x : Bool) → drop (suc (span cs)) cs ≡ after cs → drop (suc (pick x 0 (suc (span cs)))) (c ∷ cs) ≡ pick x cs (after cs)
+    go : (x : Bool) → if_end f (drop (span cs) cs) ≡ pick (tabbed cs) None (Some (f, after cs))
+        → if_end f (drop (pick x 0 (suc (span cs))) (c ∷ cs)) ≡ pick (pick x (eqb c 9) (tabbed cs)) None (Some (f, pick x cs (after cs)))
     go true e = refl
     go false e = e
 
--- of the field at a place: whether a tab follows, and what follows that
-abbrev pub PartOf : List ℕ → ℕ → Part → Type 0
-PartOf x at p = (p.tab ≡ tabbed (drop at x)) × (drop p.next x ≡ after (drop at x)) × (p.next ≤ length x)
+pub inner-is : (s : List ℕ) → inner s ≡ pick (tabbed s) (Some (field s, after s)) None
+unfolding inner field
+inner-is s = tab-after (take (span s) s) s
 
-module _ (x : List ℕ) (at : ℕ) (l : at ≤ length x) where
-  part-found : at + span (drop at x) < length x → PartOf x at (record { end = at + span (drop at x); tab = eqb (get_or x (at + span (drop at x)) 0) 9; next = at + span (drop at x) + 1 })
-  part-found h =
-      let z : at + span (drop at x) + 1 ≡ at + suc (span (drop at x)) = omega arith in (
-        ap (λ (b : ℕ). eqb b 9) (sym (get_or-drop at x (span (drop at x)) 0)) ∙ tab-is (drop at x),
-        rw (z, ← drop-drop (suc (span (drop at x))) at x) (after_is (drop at x)),
-        omega arith,
-      )
-
-  part-last : length x ≤ at + span (drop at x) → at + span (drop at x) ≤ length x → PartOf x at (record { end = at + span (drop at x); tab = false; next = at + span (drop at x) })
-  part-last h k =
-      let n : length (drop at x) ≤ span (drop at x) = rw (length-drop at x) (omega arith) in
-      let m : length (drop at x) ≤ suc (span (drop at x)) = omega arith in (
-        ap (λ (b : ℕ). eqb b 9) (sym (get_or-eq_default (drop at x) 0 n)) ∙ tab-is (drop at x),
-        drop_of_length-le x h ∙ sym (drop_of_length-le (drop at x) m) ∙ after_is (drop at x),
-        k,
-      )
-
-span-le : (s : List ℕ) → span s ≤ length s
-unfolding span pick
-span-le [] = omega arith
-span-le (c ∷ cs) = go (parts c) (span-le cs)
-  where
-    go : (x : Bool) → span cs ≤ length cs → pick x 0 (suc (span cs)) ≤ suc (length cs)
-    go true e = omega arith
-    go false e = omega arith
-
-pub part-is : (x : List ℕ) (at : ℕ) → at ≤ length x → PartOf x at (part_at x at)
-unfolding part_at end_of pick
-part-is x at l = go (dec_lt (at + span (drop at x)) (length x))
-  where
-    go : Dec (at + span (drop at x) < length x) → PartOf x at (part_at x at)
-    go (yes h) = rw (lt-ltb (at + span (drop at x)) (length x) h) (part-found x at l h)
-    go (no h) =
-        let n : length x ≤ at + span (drop at x) = omega arith in
-        let s : span (drop at x) ≤ length x - at = rw (length-drop at x) at (span-le (drop at x)) in
-        rw (le-ltb (at + span (drop at x)) (length x) n) (part-last x at l n (omega arith))
+pub last-is : (s : List ℕ) → last s ≡ pick (tabbed s) None (Some (field s, after s))
+unfolding last field
+last-is s = end-after (take (span s) s) s

@@ -1,13 +1,14 @@
 -- Records stored line by line are the leading lines' records stored.
-use mathlib.Core.Path.{◌≡◌, refl, ap, ◌∙◌}
+use mathlib.Core.Path.{◌≡◌, refl, ap, sym, ◌∙◌}
 use mathlib.Core.List.{List, [], ◌∷◌, ◌++◌}
 use mathlib.Core.Bool.{Bool, true, false}
 use Prim.Native.Nat.{ℕ, zero, suc, ◌+◌, ◌-◌, ◌*◌, ◌/◌, ◌≤◌, ◌<◌}
 use native.Mathlib.Omega.{arith}
 use native.Mathlib.Nat.{mul-zero}
-use lib.ListN.{length, get_or, set, drop, length-append, drop_of_length-le}
-use lib.Seq.{sets, sets-eq, length-sets, drop-cons}
+use lib.ListN.{length, set, drop, length-append}
+use lib.Seq.{sets, sets-eq, length-sets}
 use Rattle.loops.specs.Loop.{pick}
+use Rattle.std.specs.Prelude.{Option, Some, None}
 use Rattle.text.specs.Over.{over}
 use Rattle.text.specs.Rows.{rows, lines, each_fields}
 use Rattle.text.specs.Plain.{lead}
@@ -21,13 +22,9 @@ sets-append (a ∷ u) v l i =
     let z : suc i + length u ≡ i + suc (length u) = omega arith in
     sets-append u v (set l i a) (suc i) ∙ ap (λ (k : ℕ). sets (sets (set l i a) (suc i) u) k v) z
 
--- the lines from a place on
-pub rows_at : (x : List ℕ) (p : ℕ) → p < length x → rows (drop p x) ≡ row (drop p x) ∷ rows (rest (drop p x))
-rows_at x p h = rw (drop-cons x p 0 h) (rows_split (get_or x p 0) (drop (suc p) x))
-
-pub rows_none : (x : List ℕ) (p : ℕ) → length x ≤ p → rows (drop p x) ≡ []
-unfolding rows lines each_fields
-rows_none x p h = rw (drop_of_length-le x h)
+-- two answers that are the same
+pub some_parts : {A B : Type 0} (p q : A × B) → Some p ≡ Some q → (p.0 ≡ q.0) × (p.1 ≡ q.1)
+some_parts {A} {B} p q e = let h : p ≡ q = cc in (ap (λ (z : A × B). z.0) h, ap (λ (z : A × B). z.1) h)
 
 -- the leading lines, one by one
 module _ (good : ℕ → List (List ℕ) → Bool) (of : List (List ℕ) → List ℕ) where
@@ -73,6 +70,34 @@ module _ (size : ℕ) (good : ℕ → List (List ℕ) → Bool) (of : List (List
       let c : suc (n + 1) ≡ n + 1 + 1 = omega arith in
       let k : (ls : List (List ℕ)) → n + 1 + length ls ≡ n + suc (length ls) = λ ls. omega arith in
       rw (l, length-sets b (size * n) (of r), c, sets-append (of r) _ b (size * n), q, k _)
+
+  -- one line of a text, where its answer is as the code has it
+  module _ (s : List ℕ) where
+    pub line-bad : pick {A = Option (List ℕ × List ℕ)} (good (n + 1) (row s)) (Some (of (row s), rest s)) None ≡ None → filled b n (rows s) ≡ fill size good of b n (rows s)
+    unfolding rows lines each_fields pick
+    line-bad e = go s e
+      where
+        bad : (x : Bool) (p : List ℕ × List ℕ) → pick {A = Option (List ℕ × List ℕ)} x (Some p) None ≡ None → x ≡ false
+        bad true p e = absurd (cc)
+        bad false p e = refl
+
+        go : (s : List ℕ) → pick {A = Option (List ℕ × List ℕ)} (good (n + 1) (row s)) (Some (of (row s), rest s)) None ≡ None → filled b n (rows s) ≡ fill size good of b n (rows s)
+        go [] e = fill_none
+        go (c ∷ cs) e = rw (rows_split c cs) (fill-bad (row (c ∷ cs)) (rows (rest (c ∷ cs))) (bad _ _ e))
+
+    pub line-more : good (n + 1) (row []) ≡ false → (r t : List ℕ) → pick {A = Option (List ℕ × List ℕ)} (good (n + 1) (row s)) (Some (of (row s), rest s)) None ≡ Some (r, t)
+        → n < length b / size → size * n + length r ≡ size * (n + 1) → fill size good of (sets b (size * n) r) (n + 1) (rows t) ≡ fill size good of b n (rows s)
+    unfolding pick
+    line-more z r t e h q = go s (got (good (n + 1) (row s)) refl e)
+      where
+        got : (x : Bool) → good (n + 1) (row s) ≡ x → pick {A = Option (List ℕ × List ℕ)} x (Some (of (row s), rest s)) None ≡ Some (r, t)
+            → (good (n + 1) (row s) ≡ true) × (r ≡ of (row s)) × (t ≡ rest s)
+        got true g e = let p = some_parts (of (row s), rest s) (r, t) e in (g, sym p.0, sym p.1)
+        got false g e = absurd (cc)
+
+        go : (s : List ℕ) → (good (n + 1) (row s) ≡ true) × (r ≡ of (row s)) × (t ≡ rest s) → fill size good of (sets b (size * n) r) (n + 1) (rows t) ≡ fill size good of b n (rows s)
+        go [] g = absurd (let a = g.0 in let y : ◌≡◌ {A = ℕ} 0 1 = cc in omega arith)
+        go (c ∷ cs) g = rw (rows_split c cs, g.1, g.2) (fill_more (row (c ∷ cs)) (rows (rest (c ∷ cs))) h g.0 (rw g.1 at q))
 
 -- the records of the leading lines have room
 module _ (good : ℕ → List (List ℕ) → Bool) (of : List (List ℕ) → List ℕ) (size : ℕ) (sized : (r : List (List ℕ)) → length (of r) ≡ size) where

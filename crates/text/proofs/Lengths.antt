@@ -7,7 +7,7 @@ use native.Mathlib.Omega.{arith}
 use lib.Dec.{eqb}
 use lib.ListN.{length, get_or, length-append}
 use Rattle.loops.specs.Loop.{pick}
-use Rattle.text.specs.declared.read.Read.TheVariants.{Refused}
+use Rattle.std.specs.Prelude.{None}
 use Rattle.text.specs.Number.{decimal}
 use Rattle.text.specs.Name.{word_name, addr_name, node_name, kind_names}
 use Rattle.text.specs.Plain.{Plain, plain_text}
@@ -67,11 +67,11 @@ table-length j k w xs ns h t =
     rw (length-append (joined (pair_row word_name w)) (10 ∷ text_of (rows_of addr_row 1 xs ++ rows_of node_row 1 ns))) (omega (arith, t.few, t.some))
 
 -- a text that is longer is refused, whatever it is
-pub too_long : (j k : ℕ) (x : List ℕ) → k < 2 ^ 64 - 1 → longest j k < length x → answer_of (plain_text j k x) ≡ Refused
+pub too_long : (j k : ℕ) (x : List ℕ) → k < 2 ^ 64 - 1 → longest j k < length x → answer_of (plain_text j k x) ≡ None
 unfolding answer_of
 too_long j k x h l = go (plain_text j k x) refl
   where
-    go : (p : Plain) → plain_text j k x ≡ p → answer_of p ≡ Refused
+    go : (p : Plain) → plain_text j k x ≡ p → answer_of p ≡ None
     go (plain false w xs ns) e = refl
     go (plain true w xs ns) e =
         let a = accepted j k x w xs ns e in

@@ -1,90 +1,83 @@
--- What a line read field by field comes to.
-use mathlib.Core.Path.{◌≡◌, refl, ap, ◌∙◌}
-use mathlib.Core.List.{List, [], ◌∷◌}
-use mathlib.Core.Bool.{true, not, ◌&&◌}
-use Prim.Native.Nat.{ℕ, ◌+◌, ◌≤◌}
-use lib.Dec.{eqb, ltb}
-use lib.ListN.{length, take, drop}
-use Rattle.loops.specs.Loop.{pick, first}
-use Rattle.text.specs.declared.field.Field.{Field}
-use Rattle.text.specs.declared.line.Node.{Node}
-use Rattle.text.specs.Number.{number, valid, value}
-use Rattle.text.specs.Name.{same, node_name, kind_count, place_of}
-use Rattle.text.specs.Key.{key, pack, is_kind}
-use Rattle.text.specs.Field.{span, field_at, part_at, name_field, number_field, kind_field}
-use Rattle.text.specs.NodeLine.{node_line}
-use Rattle.text.proofs.Elements.{Below, below-drop, below-take}
-use Rattle.text.proofs.Names.{fine, name-is, place_is}
-use Rattle.text.proofs.Cuts.{field, tabbed, after, part-is}
+-- A line's fields, as the code takes them apart: what each gives where it is good, and what is known where it gave something.
+use mathlib.Core.Path.{◌≡◌, refl, ◌∙◌}
+use mathlib.Core.List.{List}
+use mathlib.Core.Bool.{Bool, true, false}
+use Prim.Native.Nat.{ℕ, ◌+◌}
+use native.Mathlib.Omega.{arith}
+use lib.Dec.{ltb}
+use Rattle.std.specs.Prelude.{Option, Some, None, option_map, option_and_then}
+use Rattle.loops.specs.Loop.{pick}
+use Rattle.loops.proofs.Loop.{pick_true}
+use Rattle.text.specs.Number.{valid, value}
+use Rattle.text.specs.Name.{same, kind_count, place_of, kind}
+use Rattle.text.specs.Field.{inner, last, name_field, valued}
+use Rattle.text.proofs.Names.{same-turned, kind-is}
+use Rattle.text.proofs.Cuts.{field, tabbed, after, inner-is, last-is}
 
--- the keys that the code names
-pub node-key : key node_name ≡ 5996048238
-unfolding key pack pick node_name
-node-key = refl
+pub valid-some : (o : Option ℕ) → valid o ≡ true → o ≡ Some (value o)
+valid-some None e = absurd (let z : ◌≡◌ {A = ℕ} 0 1 = cc in omega arith)
+valid-some (Some v) e = refl
 
-pub node-line-is : (x : List ℕ) (at i : ℕ) (f n k w a b c m : Field)
-    → f ≡ name_field x at 5996048238 → n ≡ number_field x f → k ≡ kind_field x n → w ≡ number_field x k → a ≡ number_field x w → b ≡ number_field x a → c ≡ number_field x b → m ≡ number_field x c
-    → ◌≡◌ {A = Node} (record {
-      good = m.good && not m.tab && eqb n.value i;
-      kind = k.value;
-      width = w.value;
-      a = a.value;
-      b = b.value;
-      c = c.value;
-      imm = m.value;
-      next = m.next;
-    }) (node_line x at i)
-unfolding node_line
-node-line-is x at i f n k w a b c m e₀ e₁ e₂ e₃ e₄ e₅ e₆ e₇ = rw (node-key, ← e₀, ← e₁, ← e₂, ← e₃, ← e₄, ← e₅, ← e₆, ← e₇)
+-- a kind's name is one where its place is that of a name
+pub kind-good : (s : List ℕ) → ltb (place_of s) kind_count ≡ true → kind s ≡ Some (place_of s + 1)
+kind-good s e = kind-is s ∙ pick_true _ _ _ e
 
--- f is the first field of s: whether a tab follows, and what follows that
-abbrev pub Reads : List ℕ → Field → List ℕ → Type 0
-Reads x f s = (f.tab ≡ tabbed s) × (drop f.next x ≡ after s) × (f.next ≤ length x)
+pub kind-valid : (s : List ℕ) → valid (kind s) ≡ true → ltb (place_of s) kind_count ≡ true
+unfolding pick
+kind-valid s e = go (ltb (place_of s) kind_count) refl
+  where
+    go : (b : Bool) → ltb (place_of s) kind_count ≡ b → ltb (place_of s) kind_count ≡ true
+    go true t = t
+    go false t = absurd (let k : kind s ≡ None = rw t at (kind-is s) in let f : false ≡ true = rw k at e in let z : ◌≡◌ {A = ℕ} 0 1 = cc in omega arith)
 
-module _ (x : List ℕ) where
-  pub name-reads : (at k : ℕ) → at ≤ length x → Reads x (name_field x at k) (drop at x)
-  unfolding name_field
-  name-reads at k h = part-is x at h
+module _ (s : List ℕ) where
+  -- a good field
+  pub name-got : (name : List ℕ) → tabbed s ≡ true → same name (field s) ≡ true → name_field name s ≡ Some (after s)
+  unfolding name_field pick
+  name-got name t e = rw (inner-is s, t, same-turned (field s) name, e)
 
-  pub next-reads : (f : Field) (s : List ℕ) → Reads x f s → ((part_at x f.next).tab ≡ tabbed (after s)) × (drop (part_at x f.next).next x ≡ after (after s)) × ((part_at x f.next).next ≤ length x)
-  next-reads f s r = rw r.1 at (part-is x f.next r.2)
+  pub inner-got : (of : List ℕ → Option ℕ) (v : ℕ) → tabbed s ≡ true → of (field s) ≡ Some v → valued of (inner s) ≡ Some (v, after s)
+  unfolding pick
+  inner-got of v t e = rw (inner-is s, t, e)
 
-  pub number-reads : (f : Field) (s : List ℕ) → Reads x f s → Reads x (number_field x f) (after s)
-  unfolding number_field
-  number-reads f s r = next-reads f s r
+  pub last-got : (of : List ℕ → Option ℕ) (v : ℕ) → tabbed s ≡ false → of (field s) ≡ Some v → valued of (last s) ≡ Some (v, after s)
+  unfolding pick
+  last-got of v t e = rw (last-is s, t, e)
 
-  pub kind-reads : (f : Field) (s : List ℕ) → Reads x f s → Reads x (kind_field x f) (after s)
-  unfolding kind_field
-  kind-reads f s r = next-reads f s r
+  -- a field that gave something
+  module _ {B : Type 0} (y : B) (P : Type 0) where
+    pub name-had : (name : List ℕ) (f : List ℕ → Option B) → option_and_then f (name_field name s) ≡ Some y → (tabbed s ≡ true → same name (field s) ≡ true → f (after s) ≡ Some y → P) → P
+    unfolding name_field pick
+    name-had name f e k = go (tabbed s) refl (same (field s) name) refl (rw (inner-is s) at e)
+      where
+        go : (b : Bool) → tabbed s ≡ b → (d : Bool) → same (field s) name ≡ d
+            → option_and_then f (option_and_then (λ (p : List ℕ × List ℕ). pick (same p.0 name) (Some p.1) None) (pick b (Some (field s, after s)) None)) ≡ Some y → P
+        go true t true g q = k t (same-turned name (field s) ∙ g) (rw g at q)
+        go true t false g q = absurd (let h : ◌≡◌ {A = Option B} None (Some y) = rw g at q in cc)
+        go false t d g q = absurd (cc)
 
-  pub field-reads : (f : Field) (s : List ℕ) → Reads x f s → field_at x f.next ≡ field (after s)
-  unfolding field_at field
-  field-reads f s r = ap (λ (t : List ℕ). take (span t) t) r.1
+    pub inner-had : (of : List ℕ → Option ℕ) (f : ℕ × List ℕ → Option B) → option_and_then f (valued of (inner s)) ≡ Some y
+        → (tabbed s ≡ true → valid (of (field s)) ≡ true → f (value (of (field s)), after s) ≡ Some y → P) → P
+    unfolding pick
+    inner-had of f e k = go (tabbed s) refl (of (field s)) refl (rw (inner-is s) at e)
+      where
+        go : (b : Bool) → tabbed s ≡ b → (o : Option ℕ) → of (field s) ≡ o → option_and_then f (valued of (pick b (Some (field s, after s)) None)) ≡ Some y → P
+        go true t (Some v) g q = k t (rw g) (rw g (rw g at q))
+        go true t None g q = absurd (let h : ◌≡◌ {A = Option B} None (Some y) = rw g at q in cc)
+        go false t o g q = absurd (cc)
 
-  pub number-value : (f : Field) (s : List ℕ) → Reads x f s → (number_field x f).value ≡ value (number (field (after s)))
-  unfolding number_field
-  number-value f s r = rw (field-reads f s r)
+    pub last-had : (of : List ℕ → Option ℕ) (f : ℕ × List ℕ → B) → option_map f (valued of (last s)) ≡ Some y → (tabbed s ≡ false → valid (of (field s)) ≡ true → P) → P
+    unfolding pick
+    last-had of f e k = go (tabbed s) refl (of (field s)) refl (rw (last-is s) at e)
+      where
+        go : (b : Bool) → tabbed s ≡ b → (o : Option ℕ) → of (field s) ≡ o → option_map f (valued of (pick b None (Some (field s, after s)))) ≡ Some y → P
+        go false t (Some v) g q = k t (rw g)
+        go false t None g q = absurd (let h : ◌≡◌ {A = Option B} None (Some y) = rw g at q in cc)
+        go true t o g q = absurd (cc)
 
-  pub number-good : (f : Field) (s : List ℕ) → Reads x f s → (number_field x f).good ≡ (f.good && tabbed s && valid (number (field (after s))))
-  unfolding number_field
-  number-good f s r = rw (field-reads f s r, r.0)
-
-  module _ (b : Below 256 x) where
-    pub field_below : (at : ℕ) → Below 256 (field_at x at)
-    unfolding field_at
-    field_below at = below-take 256 (span (drop at x)) (drop at x) (below-drop 256 at x b)
-
-    pub name-good : (at : ℕ) (name : List ℕ) → fine (name ∷ []) ≡ true → (name_field x at (key name)).good ≡ same name (field (drop at x))
-    unfolding name_field field field_at
-    name-good at name f = name-is name (field_at x at) f (field_below at)
-
-    pub place-reads : (f : Field) (s : List ℕ) → Reads x f s → first kind_count (is_kind (key (field_at x f.next))) ≡ place_of (field (after s))
-    place-reads f s r = place_is (field_at x f.next) (field_below f.next) ∙ ap place_of (field-reads f s r)
-
-    pub kind-value : (f : Field) (s : List ℕ) → Reads x f s → (kind_field x f).value ≡ place_of (field (after s)) + 1
-    unfolding kind_field
-    kind-value f s r = rw (place-reads f s r)
-
-    pub kind-good : (f : Field) (s : List ℕ) → Reads x f s → (kind_field x f).good ≡ (f.good && tabbed s && ltb (place_of (field (after s))) kind_count)
-    unfolding kind_field
-    kind-good f s r = rw (place-reads f s r, r.0)
+-- a line's answer is one where, and only where, its row is good
+pub answers_same : {A : Type 0} (o : Option A) (b : Bool) (x : A) → (b ≡ true → o ≡ Some x) → ((y : A) → o ≡ Some y → b ≡ true) → o ≡ pick b (Some x) None
+unfolding pick
+answers_same o true x f g = f refl
+answers_same None false x f g = refl
+answers_same (Some y) false x f g = absurd (let h = g y refl in let z : ◌≡◌ {A = ℕ} 0 1 = cc in omega arith)

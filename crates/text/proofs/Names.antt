@@ -1,166 +1,56 @@
--- A field's key is a name's key just where the field is the name.
-use mathlib.Core.Path.{◌≡◌, refl, sym, ◌∙◌}
-use mathlib.Core.List.{List, [], ◌∷◌}
+-- A name's bytes compared, and the kinds' names searched.
+use mathlib.Core.Path.{◌≡◌, refl, sym, ap, ◌∙◌}
+use mathlib.Core.List.{List, [], ◌∷◌, map}
 use mathlib.Core.Bool.{Bool, true, false, ◌&&◌}
-use Prim.Native.Nat.{ℕ, zero, suc, ◌+◌, ◌-◌, ◌*◌, ◌^◌, ◌≤◌, ◌<◌}
+use Prim.Native.Nat.{ℕ, zero, suc, ◌+◌, ◌≤◌, ◌<◌}
 use native.Mathlib.Omega.{arith}
 use native.Mathlib.Decide.{dec_lt}
-use native.Mathlib.Nat.{pow-suc}
 use lib.Dec.{eqb, ltb, leb}
-use lib.ListN.{length, get_or, drop, length-drop, drop_of_length-le}
-use lib.Seq.{drop-cons}
-use borrow.Author.Tests.{lt-ltb, le-ltb, eq-eqb, ne_eqb, eqb-true, ltb-true, leb-true}
-use Rattle.loops.specs.Loop.{pick, first}
-use Rattle.loops.proofs.Loop.{first_found, first_more, first_done, both}
-use Rattle.text.specs.Name.{same, word_name, addr_name, node_name, kind_names, kind_count, is_named, place_of}
-use Rattle.text.specs.Key.{pack, key, kind_keys, is_kind}
-use Rattle.text.proofs.Elements.{Below, below-drop}
+use lib.ListN.{length, get_or}
+use denote.Ref.{Bor}
+use borrow.Author.Tests.{eqb-true, leb-true}
+use Rattle.std.specs.Prelude.{Option, Some, None, option_map}
+use Rattle.std.specs.Str.{bytes_eq}
+use Rattle.std.specs.List.{position}
+use Rattle.std.proofs.lemmas.Slice.Eq.{bytes_eq-Decides}
+use Rattle.loops.specs.Loop.{pick, first, found}
+use Rattle.loops.proofs.Loop.{both, by-pick, pick_true, pick-false}
+use Rattle.loops.proofs.Search.{position_found}
+use Rattle.text.specs.Name.{same, kind_names, kind_count, is_named, place_of, kind}
 
--- the loop of `key`, from the last byte to the first
-pub pack-small : (k : ℕ) (s : List ℕ) → Below 256 s → length s ≤ k → pack s < 2 * 256 ^ k
-unfolding pack
-pack-small zero [] b h = omega arith
-pack-small (suc k) [] b h = let p : 256 ^ suc k ≡ 256 ^ k * 256 = pow-suc 256 k in let q = pack-small k [] b (omega arith) in omega arith
-pack-small zero (c ∷ cs) b h = absurd (omega arith)
-pack-small (suc k) (c ∷ cs) b h =
-    let p : 256 ^ suc k ≡ 256 ^ k * 256 = pow-suc 256 k in
-    let q = pack-small k cs b.1 (omega arith) in
-    omega arith
-
-module _ (s : List ℕ) where
-  pub pack-fits : Below 256 s → (i : ℕ) → length s ≤ i + 6 → pack (drop i s) < 2 ^ 49
-  pack-fits b i h = pack-small 6 (drop i s) (below-drop 256 i s b) (rw (length-drop i s) (omega arith))
-
-  pub pack-none : (i : ℕ) → length s ≤ i → 1 ≡ pack (drop i s)
-  unfolding pack
-  pack-none i h = rw (drop_of_length-le s h)
-
-  pub pack-more : (j k c : ℕ) → 0 < j → j ≤ length s → k ≡ pack (drop j s) → c ≡ get_or s (j - 1) 0 → 256 * k + c ≡ pack (drop (j - 1) s)
-  unfolding pack
-  pack-more zero k c z h p q = absurd (omega arith)
-  pack-more (suc i) k c z h p q = let y : suc i - 1 ≡ i = omega arith in rw (y, drop-cons s i 0 (omega arith), p, q, y)
-
-  pub key-short : (k i : ℕ) → length s ≤ 7 → i ≤ 0 → k ≡ pack (drop i s) → k ≡ key s
-  unfolding key pick
-  key-short k i h z e = let y : i ≡ 0 = omega arith in rw (le-ltb 7 (length s) h) (rw y at e)
-
-  pub key-long : 7 < length s → 0 ≡ key s
-  unfolding key pick
-  key-long h = rw (lt-ltb 7 (length s) h)
-
--- the search of a kind's key
-module _ (k i : ℕ) (e : i ≡ first i (is_kind k)) where
-  pub kind-found : i < kind_count → get_or kind_keys i 0 ≡ k → i ≡ first kind_count (is_kind k)
-  unfolding is_kind
-  kind-found h q = first_found (is_kind k) kind_count i true h e (sym (eq-eqb (get_or kind_keys i 0) k q)) refl
-
-  pub kind-more : (get_or kind_keys i 0 ≡ k → ⊥) → i + 1 ≡ first (i + 1) (is_kind k)
-  unfolding is_kind
-  kind-more q = first_more (is_kind k) i false e (sym (ne_eqb (get_or kind_keys i 0) k q)) refl
-
-  pub kind-none : kind_count ≤ i → i ≤ kind_count → i ≡ first kind_count (is_kind k)
-  kind-none h g = first_done (is_kind k) i kind_count h g e
-
--- the same bytes
 pub same_refl : (s : List ℕ) → same s s ≡ true
 unfolding same
-same_refl [] = refl
-same_refl (c ∷ cs) = rw (eq-eqb c c refl) (same_refl cs)
+same_refl s = (bytes_eq-Decides s s).1 refl
 
 pub same-eq : (s t : List ℕ) → same s t ≡ true → s ≡ t
 unfolding same
-same-eq [] [] e = refl
-same-eq [] (d ∷ ds) e = absurd (let z : ◌≡◌ {A = ℕ} 0 1 = cc in omega arith)
-same-eq (c ∷ cs) [] e = absurd (let z : ◌≡◌ {A = ℕ} 0 1 = cc in omega arith)
-same-eq (c ∷ cs) (d ∷ ds) e =
-    let b = both (eqb c d) (same cs ds) e in
-    let p = eqb-true c d b.0 in
-    let q = same-eq cs ds b.1 in
-    cc
+same-eq s t e = (bytes_eq-Decides s t).0 e
 
 pub bool_same : (a b : Bool) → (a ≡ true → b ≡ true) → (b ≡ true → a ≡ true) → a ≡ b
 bool_same true b f g = sym (f refl)
 bool_same false true f g = g refl
 bool_same false false f g = refl
 
-pack-some : (s : List ℕ) → 1 ≤ pack s
-unfolding pack
-pack-some [] = omega arith
-pack-some (c ∷ cs) = omega (arith, pack-some cs)
+pub same-turned : (s t : List ℕ) → same s t ≡ same t s
+same-turned s t = bool_same (same s t) (same t s) (λ e. rw (same-eq s t e) (same_refl t)) (λ e. rw (same-eq t s e) (same_refl s))
 
-pack-same : (s t : List ℕ) → Below 256 s → Below 256 t → pack s ≡ pack t → s ≡ t
-unfolding pack
-pack-same [] [] a b e = refl
-pack-same [] (d ∷ ds) a b e = absurd (omega (arith, pack-some ds))
-pack-same (c ∷ cs) [] a b e = absurd (omega (arith, pack-some cs))
-pack-same (c ∷ cs) (d ∷ ds) a b e =
-    let p : c ≡ d = omega arith in
-    let q : pack cs ≡ pack ds = omega arith in
-    let r = pack-same cs ds a.1 b.1 q in
-    cc
+-- no kind's name is longer than seven bytes
+unfoldable short : List (List ℕ) → Bool
+short [] = true
+short (n ∷ ns) = leb (length n) 7 && short ns
 
-key-eq : (name s : List ℕ) → Below 256 name → Below 256 s → length name ≤ 7 → key name ≡ key s → Dec (7 < length s) → name ≡ s
-unfolding key pick
-key-eq name s a b h e (yes l) = absurd (let k : key name ≡ pack name = rw (le-ltb 7 (length name) h) in let m : key s ≡ 0 = rw (lt-ltb 7 (length s) l) in omega (arith, pack-some name))
-key-eq name s a b h e (no l) =
-    let k : key name ≡ pack name = rw (le-ltb 7 (length name) h) in
-    let m : key s ≡ pack s = rw (le-ltb 7 (length s) (omega arith)) in
-    pack-same name s a b (omega arith)
+kinds-short : short kind_names ≡ true
+unfolding short kind_names
+kinds-short = refl
 
--- comparing keys is comparing names
-pub key-same : (name s : List ℕ) → Below 256 name → Below 256 s → length name ≤ 7 → eqb (key name) (key s) ≡ same name s
-key-same name s a b h =
-    bool_same _ _
-    (λ e. let q = key-eq name s a b h (eqb-true (key name) (key s) e) (dec_lt 7 (length s)) in rw (← q) (same_refl name))
-    (λ e. let q = same-eq name s e in rw q (eq-eqb (key s) (key s) refl))
-
--- names that fit a key, as a test
-unfoldable pub bytes : List ℕ → Bool
-bytes [] = true
-bytes (c ∷ cs) = ltb c 256 && bytes cs
-
-bytes_below : (s : List ℕ) → bytes s ≡ true → Below 256 s
-unfolding bytes
-bytes_below [] e = tt
-bytes_below (c ∷ cs) e = let b = both (ltb c 256) (bytes cs) e in (ltb-true c 256 b.0, bytes_below cs b.1)
-
-unfoldable pub fine : List (List ℕ) → Bool
-fine [] = true
-fine (n ∷ ns) = (leb (length n) 7 && bytes n) && fine ns
-
-keys_of : List (List ℕ) → List ℕ
-keys_of [] = []
-keys_of (n ∷ ns) = key n ∷ keys_of ns
-
-named : (ns : List (List ℕ)) → fine ns ≡ true → (s : List ℕ) → Below 256 s → (i : ℕ) → i < length ns → eqb (get_or (keys_of ns) i 0) (key s) ≡ same (get_or ns i []) s
-unfolding fine keys_of
-named [] e s b i h = absurd (omega arith)
-named (n ∷ ns) e s b zero h =
-    let f = both (leb (length n) 7 && bytes n) (fine ns) e in
-    let g = both (leb (length n) 7) (bytes n) f.0 in
-    key-same n s (bytes_below n g.1) b (leb-true (length n) 7 g.0)
-named (n ∷ ns) e s b (suc i) h = named ns (both (leb (length n) 7 && bytes n) (fine ns) e).1 s b i (omega arith)
-
-kinds-fine : fine kind_names ≡ true
-unfolding fine bytes kind_names
-kinds-fine = refl
-
-kinds-keys : keys_of kind_names ≡ kind_keys
-unfolding keys_of kind_names kind_keys key pack pick
-kinds-keys = refl
-
-kinds-count : length kind_names ≡ kind_count
-unfolding kind_names
-kinds-count = refl
-
-short : (ns : List (List ℕ)) → fine ns ≡ true → (i : ℕ) → length (get_or ns i []) ≤ 7
-unfolding fine
-short [] e i = omega arith
-short (n ∷ ns) e zero = let f = both (leb (length n) 7 && bytes n) (fine ns) e in leb-true (length n) 7 (both (leb (length n) 7) (bytes n) f.0).0
-short (n ∷ ns) e (suc i) = short ns (both (leb (length n) 7 && bytes n) (fine ns) e).1 i
+short-all : (ns : List (List ℕ)) → short ns ≡ true → (i : ℕ) → length (get_or ns i []) ≤ 7
+unfolding short
+short-all [] e i = omega arith
+short-all (n ∷ ns) e zero = leb-true (length n) 7 (both (leb (length n) 7) (short ns) e).0
+short-all (n ∷ ns) e (suc i) = short-all ns (both (leb (length n) 7) (short ns) e).1 i
 
 pub kind-short : (i : ℕ) → length (get_or kind_names i []) ≤ 7
-kind-short i = short kind_names kinds-fine i
+kind-short i = short-all kind_names kinds-short i
 
 -- each kind's name stands at its own place
 unfoldable places : ℕ → Bool
@@ -188,27 +78,35 @@ unfolding first
 first-same zero p q h = refl
 first-same (suc n) p q h = rw (first-same n p q (λ i l. h i (omega arith)), h n (omega arith))
 
--- a kind is found by its key where it is found by its name
-pub place_is : (s : List ℕ) → Below 256 s → first kind_count (is_kind (key s)) ≡ place_of s
-unfolding place_of is_kind is_named
-place_is s b = first-same kind_count (is_kind (key s)) (is_named s) (λ i h. rw (← kinds-keys) (named kind_names kinds-fine s b i (rw kinds-count h)))
+-- a kind's number by its place
+pub kind-is : (s : List ℕ) → kind s ≡ pick (ltb (place_of s) kind_count) (Some (place_of s + 1)) None
+unfolding kind found place_of
+kind-is s =
+    by-pick (λ r. option_map (λ (i : ℕ). i + 1) r ≡ pick (ltb (first kind_count (is_named s)) kind_count) (Some (first kind_count (is_named s) + 1)) None)
+    (ltb (first kind_count (is_named s)) kind_count) _ _ (λ e. sym (pick_true _ _ _ e)) (λ e. sym (pick-false _ _ _ e))
 
--- a line's name is found by its key
-pub name-is : (name s : List ℕ) → fine (name ∷ []) ≡ true → Below 256 s → eqb (key s) (key name) ≡ same name s
-unfolding keys_of
-name-is name s f b = eqb-turned (key s) (key name) ∙ named (name ∷ []) f s b 0 (omega arith)
-  where
-    eqb-turned : (m n : ℕ) → eqb m n ≡ eqb n m
-    eqb-turned m n = bool_same (eqb m n) (eqb n m) (λ e. eq-eqb n m (sym (eqb-true m n e))) (λ e. eq-eqb m n (sym (eqb-true n m e)))
+-- the code's search, over references to the names
+seen_at : (ks : List (Bor (List ℕ))) (i : ℕ) (d : Bor (List ℕ)) → i < length ks → (get_or ks i d).now ≡ get_or (map (λ k. k.now) ks) i []
+seen_at [] i d h = absurd (omega arith)
+seen_at (k ∷ ks) zero d h = refl
+seen_at (k ∷ ks) (suc i) d h = seen_at ks i d (omega arith)
 
-pub word-fine : fine (word_name ∷ []) ≡ true
-unfolding fine bytes word_name
-word-fine = refl
+module _ (ks : List (Bor (List ℕ))) (e : map (λ k. k.now) ks ≡ kind_names) (n : length ks ≡ kind_count) (s : List ℕ) (d : Bor (List ℕ)) where
+  same_first : (m : ℕ) → m ≡ length ks → found m (λ i. bytes_eq (get_or ks i d).now s) ≡ found m (is_named s)
+  unfolding found is_named same
+  same_first m l =
+      let f : first m (λ i. bytes_eq (get_or ks i d).now s) ≡ first m (is_named s) =
+      first-same m _ _ (λ i h. ap (λ (k : List ℕ). bytes_eq k s) (seen_at ks i d (omega arith) ∙ ap (λ (q : List (List ℕ)). get_or q i []) e)) in
+      rw f
 
-pub addr-fine : fine (addr_name ∷ []) ≡ true
-unfolding fine bytes addr_name
-addr-fine = refl
+  pub kind_found : position (λ (k : Bor (List ℕ)). bytes_eq k.now s) ks ≡ found kind_count (is_named s)
+  kind_found = position_found (λ (k : Bor (List ℕ)). bytes_eq k.now s) ks d ∙ (same_first (length ks) refl ∙ ap (λ (m : ℕ). found m (is_named s)) n)
 
-pub node-fine : fine (node_name ∷ []) ≡ true
-unfolding fine bytes node_name
-node-fine = refl
+  -- what the search's `?` makes of it
+  pub kind-none : (r : Option ℕ) → r ≡ position (λ (k : Bor (List ℕ)). bytes_eq k.now s) ks → r ≡ None → None ≡ kind s
+  unfolding kind
+  kind-none r h g = ap (option_map (λ (i : ℕ). i + 1)) (sym g ∙ h ∙ kind_found)
+
+  pub kind-some : (r : Option ℕ) (i : ℕ) → r ≡ position (λ (k : Bor (List ℕ)). bytes_eq k.now s) ks → r ≡ Some i → Some (i + 1) ≡ kind s
+  unfolding kind
+  kind-some r i h g = ap (option_map (λ (i : ℕ). i + 1)) (sym g ∙ h ∙ kind_found)

@@ -1,32 +1,23 @@
--- A node's line is found good just where its row is one, with the same record.
-use mathlib.Core.Path.{◌≡◌, sym, ◌∙◌}
+-- A node's line is found just where a text's first row is one, with the same record.
+use mathlib.Core.Path.{◌≡◌, refl, ◌∙◌}
 use mathlib.Core.List.{List, [], ◌∷◌}
-use mathlib.Core.Bool.{true, false, not, ◌&&◌}
-use Prim.Native.Nat.{ℕ, ◌≤◌}
+use mathlib.Core.Bool.{Bool, true, false}
+use Prim.Native.Nat.{ℕ, ◌+◌}
 use lib.Dec.{eqb, ltb}
-use lib.ListN.{length, get_or, drop}
-use borrow.Author.Tests.{eqb-true, not-true}
+use lib.ListN.{length, get_or}
+use borrow.Author.Tests.{eqb-true}
+use Rattle.std.specs.Prelude.{Option, Some, None}
+use Rattle.loops.specs.Loop.{pick}
 use Rattle.loops.proofs.Loop.{both}
-use Rattle.text.specs.declared.field.Field.{Field}
 use Rattle.text.specs.Number.{number, valid, value}
-use Rattle.text.specs.declared.line.Node.{Node}
-use Rattle.text.specs.Name.{same, node_name, kind_count, place_of}
-use Rattle.text.specs.Key.{key}
+use Rattle.text.specs.Name.{same, node_name, kind_count, place_of, kind}
 use Rattle.text.specs.Plain.{number_at, kind_at, is_node, node_of}
-use Rattle.text.specs.Field.{name_field, number_field, kind_field}
-use Rattle.text.specs.NodeLine.{node_line}
-use Rattle.text.proofs.Elements.{Below}
-use Rattle.text.proofs.Names.{bool_same, node-fine}
+use Rattle.text.specs.Field.{number_field, kind_field, last_number}
+use Rattle.text.specs.NodeLine.{node_fields, node_line}
 use Rattle.text.proofs.Cuts.{field, tabbed, after, row, rest, row-tab, row-end, row_more, row_one}
-use Rattle.text.proofs.Lines.{Reads, name-reads, number-reads, kind-reads, number-value, number-good, name-good, kind-value, kind-good}
+use Rattle.text.proofs.Lines.{valid-some, kind-good, kind-valid, name-got, inner-got, last-got, name-had, inner-had, last-had, answers_same}
 
-six : {k k' w w' a a' b b' c c' m m' : ℕ} → k ≡ k' → w ≡ w' → a ≡ a' → b ≡ b' → c ≡ c' → m ≡ m' → ◌≡◌ {A = List ℕ} (k ∷ w ∷ a ∷ b ∷ c ∷ m ∷ []) (k' ∷ w' ∷ a' ∷ b' ∷ c' ∷ m' ∷ [])
-six e₁ e₂ e₃ e₄ e₅ e₆ = cc
-
-module _ (x : List ℕ) (b : Below 256 x) (at i : ℕ) (l : at ≤ length x) where
-  abbrev s₀ : List ℕ
-  s₀ = drop at x
-
+module _ (i : ℕ) (s₀ : List ℕ) where
   abbrev s₁ : List ℕ
   s₁ = after s₀
 
@@ -48,52 +39,6 @@ module _ (x : List ℕ) (b : Below 256 x) (at i : ℕ) (l : at ≤ length x) whe
   abbrev s₇ : List ℕ
   s₇ = after s₆
 
-  abbrev f₀ : Field
-  f₀ = name_field x at (key node_name)
-
-  abbrev f₁ : Field
-  f₁ = number_field x f₀
-
-  abbrev f₂ : Field
-  f₂ = kind_field x f₁
-
-  abbrev f₃ : Field
-  f₃ = number_field x f₂
-
-  abbrev f₄ : Field
-  f₄ = number_field x f₃
-
-  abbrev f₅ : Field
-  f₅ = number_field x f₄
-
-  abbrev f₆ : Field
-  f₆ = number_field x f₅
-
-  abbrev f₇ : Field
-  f₇ = number_field x f₆
-
-  record EightFields : Type 0 where
-    r₀ : Reads x f₀ s₀
-    r₁ : Reads x f₁ s₁
-    r₂ : Reads x f₂ s₂
-    r₃ : Reads x f₃ s₃
-    r₄ : Reads x f₄ s₄
-    r₅ : Reads x f₅ s₅
-    r₆ : Reads x f₆ s₆
-    r₇ : Reads x f₇ s₇
-
-  eight : EightFields
-  eight =
-      let r₀ : Reads x f₀ s₀ = name-reads x at (key node_name) l in
-      let r₁ : Reads x f₁ s₁ = number-reads x f₀ s₀ r₀ in
-      let r₂ : Reads x f₂ s₂ = kind-reads x f₁ s₁ r₁ in
-      let r₃ : Reads x f₃ s₃ = number-reads x f₂ s₂ r₂ in
-      let r₄ : Reads x f₄ s₄ = number-reads x f₃ s₃ r₃ in
-      let r₅ : Reads x f₅ s₅ = number-reads x f₄ s₄ r₄ in
-      let r₆ : Reads x f₆ s₆ = number-reads x f₅ s₅ r₅ in
-      let r₇ : Reads x f₇ s₇ = number-reads x f₆ s₆ r₆ in
-      record { r₀ = r₀; r₁ = r₁; r₂ = r₂; r₃ = r₃; r₄ = r₄; r₅ = r₅; r₆ = r₆; r₇ = r₇ }
-
   -- what both say
   record Whole : Type 0 where
     named : same node_name (field s₀) ≡ true
@@ -114,65 +59,61 @@ module _ (x : List ℕ) (b : Below 256 x) (at i : ℕ) (l : at ≤ length x) whe
     t₆ : tabbed s₆ ≡ true
     t₇ : tabbed s₇ ≡ false
 
-  -- a good number was preceded by a good field and a tab
-  number-parts : (f : Field) (s : List ℕ) → Reads x f s → (number_field x f).good ≡ true → (f.good ≡ true) × (tabbed s ≡ true) × (valid (number (field (after s))) ≡ true)
-  number-parts f s r e =
-      let p = both (f.good && tabbed s) (valid (number (field (after s)))) (sym (number-good x f s r) ∙ e) in
-      let q = both f.good (tabbed s) p.0 in
-      (q.0, q.1, p.1)
-
-  number-whole : (f : Field) (s : List ℕ) → Reads x f s → f.good ≡ true → tabbed s ≡ true → valid (number (field (after s))) ≡ true → (number_field x f).good ≡ true
-  number-whole f s r g t v = number-good x f s r ∙ rw (g, t, v)
-
-  line-whole : (node_line x at i).good ≡ true → Whole
-  unfolding node_line
-  line-whole e =
-      let r = eight in
-      let a = both (f₇.good && not f₇.tab) (eqb f₁.value i) e in
-      let c = both f₇.good (not f₇.tab) a.0 in
-      let p₇ = number-parts f₆ s₆ r.r₆ c.0 in
-      let p₆ = number-parts f₅ s₅ r.r₅ p₇.0 in
-      let p₅ = number-parts f₄ s₄ r.r₄ p₆.0 in
-      let p₄ = number-parts f₃ s₃ r.r₃ p₅.0 in
-      let p₃ = number-parts f₂ s₂ r.r₂ p₄.0 in
-      let k = both (f₁.good && tabbed s₁) (ltb (place_of (field s₂)) kind_count) (sym (kind-good x b f₁ s₁ r.r₁) ∙ p₃.0) in
-      let h = both f₁.good (tabbed s₁) k.0 in
-      let p₁ = number-parts f₀ s₀ r.r₀ h.0 in
+  line-whole : (p : List ℕ × List ℕ) → node_line i s₀ ≡ Some p → Whole
+  unfolding node_line node_fields number_field kind_field last_number pick
+  line-whole p e =
+      name-had s₀ p Whole node_name _ e (λ t₀ named e₀.
+      inner-had s₁ p Whole number _ e₀ (λ t₁ v₁ e₁.
+      both_and p (eqb (value (number (field s₁))) i) (node_fields s₂) e₁ (λ is e₁'.
+      inner-had s₂ p Whole kind _ e₁' (λ t₂ v₂ e₂.
+      inner-had s₃ p Whole number _ e₂ (λ t₃ v₃ e₃.
+      inner-had s₄ p Whole number _ e₃ (λ t₄ v₄ e₄.
+      inner-had s₅ p Whole number _ e₄ (λ t₅ v₅ e₅.
+      inner-had s₆ p Whole number _ e₅ (λ t₆ v₆ e₆.
+      last-had s₇ p Whole number _ e₆ (λ t₇ v₇.
       record {
-        named = sym (name-good x b at node_name node-fine) ∙ p₁.0;
-        v₁ = p₁.2;
-        is = rw (number-value x f₀ s₀ r.r₀) at a.1;
-        kind = k.1;
-        v₃ = p₃.2;
-        v₄ = p₄.2;
-        v₅ = p₅.2;
-        v₆ = p₆.2;
-        v₇ = p₇.2;
-        t₀ = p₁.1;
-        t₁ = h.1;
-        t₂ = p₃.1;
-        t₃ = p₄.1;
-        t₄ = p₅.1;
-        t₅ = p₆.1;
-        t₆ = p₇.1;
-        t₇ = sym r.r₇.0 ∙ not-true _ c.1;
-      }
+        named = named;
+        v₁ = v₁;
+        is = is;
+        kind = kind-valid (field s₂) v₂;
+        v₃ = v₃;
+        v₄ = v₄;
+        v₅ = v₅;
+        v₆ = v₆;
+        v₇ = v₇;
+        t₀ = t₀;
+        t₁ = t₁;
+        t₂ = t₂;
+        t₃ = t₃;
+        t₄ = t₄;
+        t₅ = t₅;
+        t₆ = t₆;
+        t₇ = t₇;
+      })))))))))
+    where
+      both_and : (p : List ℕ × List ℕ) (b : Bool) (o : Option (List ℕ × List ℕ)) → pick b o None ≡ Some p → (b ≡ true → o ≡ Some p → Whole) → Whole
+      both_and p true o e k = k refl e
+      both_and p false o e k = absurd (cc)
 
-  whole-line : Whole → (node_line x at i).good ≡ true
-  unfolding node_line
+  -- its record
+  abbrev record_of : List ℕ
+  record_of =
+      (place_of (field s₂) + 1) ∷ value (number (field s₃)) ∷ value (number (field s₄)) ∷ value (number (field s₅)) ∷ value (number (field s₆)) ∷ value (number (field s₇)) ∷ []
+
+  whole-line : Whole → node_line i s₀ ≡ Some (record_of, after s₇)
+  unfolding node_line node_fields number_field kind_field last_number pick
   whole-line w =
-      let r = eight in
-      let g₀ : f₀.good ≡ true = name-good x b at node_name node-fine ∙ w.named in
-      let g₁ : f₁.good ≡ true = number-whole f₀ s₀ r.r₀ g₀ w.t₀ w.v₁ in
-      let g₂ : f₂.good ≡ true = kind-good x b f₁ s₁ r.r₁ ∙ rw (g₁, w.t₁, w.kind) in
-      let g₃ : f₃.good ≡ true = number-whole f₂ s₂ r.r₂ g₂ w.t₂ w.v₃ in
-      let g₄ : f₄.good ≡ true = number-whole f₃ s₃ r.r₃ g₃ w.t₃ w.v₄ in
-      let g₅ : f₅.good ≡ true = number-whole f₄ s₄ r.r₄ g₄ w.t₄ w.v₅ in
-      let g₆ : f₆.good ≡ true = number-whole f₅ s₅ r.r₅ g₅ w.t₅ w.v₆ in
-      let g₇ : f₇.good ≡ true = number-whole f₆ s₆ r.r₆ g₆ w.t₆ w.v₇ in
-      let t₇ : f₇.tab ≡ false = r.r₇.0 ∙ w.t₇ in
-      let n : eqb f₁.value i ≡ true = rw (number-value x f₀ s₀ r.r₀) w.is in
-      rw (g₇, t₇, n)
+      rw (
+        name-got s₀ node_name w.t₀ w.named,
+        inner-got s₁ number _ w.t₁ (valid-some _ w.v₁),
+        w.is,
+        inner-got s₂ kind _ w.t₂ (kind-good (field s₂) w.kind),
+        inner-got s₃ number _ w.t₃ (valid-some _ w.v₃),
+        inner-got s₄ number _ w.t₄ (valid-some _ w.v₄),
+        inner-got s₅ number _ w.t₅ (valid-some _ w.v₅),
+        inner-got s₆ number _ w.t₆ (valid-some _ w.v₆),
+        last-got s₇ number _ w.t₇ (valid-some _ w.v₇),
+      )
 
   abbrev eight_of : List (List ℕ)
   eight_of = field s₀ ∷ field s₁ ∷ field s₂ ∷ field s₃ ∷ field s₄ ∷ field s₅ ∷ field s₆ ∷ field s₇ ∷ []
@@ -240,19 +181,9 @@ module _ (x : List ℕ) (b : Below 256 x) (at i : ℕ) (l : at ≤ length x) whe
         t₇ = m₇;
       }
 
-  pub node-good : (node_line x at i).good ≡ is_node i (row (drop at x))
-  node-good = bool_same _ _ (λ e. whole_is (line-whole e)) (λ e. whole-line (is_whole e))
+  row_found : Whole → node_line i s₀ ≡ Some (node_of (row s₀), rest s₀)
+  unfolding node_of number_at kind_at
+  row_found w = let q = whole_row w in rw (q.0, q.1) (whole-line w)
 
-  -- the record that is stored
-  abbrev record_of : Node → List ℕ
-  record_of n = n.kind ∷ n.width ∷ n.a ∷ n.b ∷ n.c ∷ n.imm ∷ []
-
-  pub node-value : (node_line x at i).good ≡ true → (record_of (node_line x at i) ≡ node_of (row (drop at x))) × (drop (node_line x at i).next x ≡ rest (drop at x))
-  unfolding node_line node_of number_at kind_at
-  node-value e =
-      let r = eight in
-      let q = whole_row (line-whole e) in (
-        rw q.0
-            (six (kind-value x b f₁ s₁ r.r₁) (number-value x f₂ s₂ r.r₂) (number-value x f₃ s₃ r.r₃) (number-value x f₄ s₄ r.r₄) (number-value x f₅ s₅ r.r₅) (number-value x f₆ s₆ r.r₆)),
-        r.r₇.1 ∙ sym q.1,
-      )
+  pub node-row : node_line i s₀ ≡ pick (is_node i (row s₀)) (Some (node_of (row s₀), rest s₀)) None
+  node-row = answers_same (node_line i s₀) (is_node i (row s₀)) (node_of (row s₀), rest s₀) (λ e. row_found (is_whole e)) (λ p e. whole_is (line-whole p e))

@@ -1,9 +1,11 @@
 -- What puts come to, one after the other.
 use mathlib.Core.Path.{◌≡◌, refl, ap, sym, ◌∙◌}
 use mathlib.Core.List.{List, [], ◌∷◌, ◌++◌, append_assoc}
+use mathlib.Core.Bool.{Bool, true, false}
 use Prim.Native.Nat.{ℕ, zero, suc, ◌+◌, ◌/◌, ◌%◌, ◌≤◌, ◌<◌}
 use native.Mathlib.Omega.{arith}
 use native.Mathlib.Numerals.{add-one}
+use lib.Dec.{ltb}
 use lib.ListN.{length, get_or, take, set, length-set}
 use lib.Seq.{take-suc, take_all, sets}
 use borrow.Author.Tests.{lt-ltb, le-ltb}
@@ -22,6 +24,23 @@ put_last : (t : Text) (u : List ℕ) (b : ℕ) → push (put t u) b ≡ put t (u
 unfolding put
 put_last t [] b = refl
 put_last t (c ∷ u) b = put_last (push t c) u b
+
+-- the buffer keeps its length
+abbrev pub room_of : Text → ℕ
+room_of (text l i) = length l
+
+push_keeps : (t : Text) (b : ℕ) → room_of (push t b) ≡ room_of t
+unfolding push pick
+push_keeps (text l i) b = go (ltb i (length l))
+  where
+    go : (x : Bool) → room_of (pick x (text (set l i b) (i + 1)) (text l i)) ≡ length l
+    go true = length-set l i b
+    go false = refl
+
+pub put_keeps : (bs : List ℕ) (t : Text) → room_of (put t bs) ≡ room_of t
+unfolding put
+put_keeps [] t = refl
+put_keeps (b ∷ bs) t = put_keeps bs (push t b) ∙ push_keeps t b
 
 module _ (l : List ℕ) (i b : ℕ) where
   pub push-in : i < length l → text (set l i b) (i + 1) ≡ push (text l i) b
@@ -42,16 +61,16 @@ put-room (b ∷ bs) l i h =
     let q : suc i + length bs ≡ i + suc (length bs) = omega arith in
     rw e (put-room bs (set l i b) (suc i) k ∙ ap (text (sets (set l i b) (suc i) bs)) q)
 
-module _ (l : List ℕ) (at : ℕ) (s : List ℕ) where
-  pub bytes-none : text l at ≡ put (text l at) (take 0 s)
+module _ (t : Text) (s : List ℕ) where
+  pub bytes-none : t ≡ put t (take 0 s)
   unfolding put
   bytes-none = refl
 
-  pub bytes-more : (m : List ℕ) (p : ℕ) (k : List ℕ) (q i : ℕ) → i < length s → text m p ≡ put (text l at) (take i s) → text k q ≡ push (text m p) (get_or s i 0) → text k q ≡ put (text l at) (take (i + 1) s)
-  bytes-more m p k q i h e f = rw (add-one, take-suc s i 0 h, ← put_last (text l at) (take i s) (get_or s i 0), ← e) f
+  pub bytes-more : (u v : Text) (i : ℕ) → i < length s → u ≡ put t (take i s) → v ≡ push u (get_or s i 0) → v ≡ put t (take (i + 1) s)
+  bytes-more u v i h e f = rw (add-one, take-suc s i 0 h, ← put_last t (take i s) (get_or s i 0), ← e) f
 
-  pub bytes-done : (m : List ℕ) (p i : ℕ) → length s ≤ i → text m p ≡ put (text l at) (take i s) → text m p ≡ put (text l at) s
-  bytes-done m p i h e = rw (take_all i s h) at e
+  pub bytes-done : (u : Text) (i : ℕ) → length s ≤ i → u ≡ put t (take i s) → u ≡ put t s
+  bytes-done u i h e = rw (take_all i s h) at e
 
 numbers-last : (s : List ℕ) (n : ℕ) → numbers (s ++ (n ∷ [])) ≡ numbers s ++ (9 ∷ decimal n)
 unfolding numbers
@@ -62,35 +81,35 @@ numbers-last [] n = append-nil (9 ∷ decimal n)
     append-nil (b ∷ u) = ap (λ (v : List ℕ). b ∷ v) (append-nil u)
 numbers-last (m ∷ s) n = rw (numbers-last s n) (sym (append_assoc (9 ∷ decimal m) (numbers s) (9 ∷ decimal n)))
 
-module _ (l : List ℕ) (at : ℕ) (s : List ℕ) where
-  pub numbers-none : text l at ≡ put (text l at) (numbers (take 0 s))
+module _ (t : Text) (s : List ℕ) where
+  pub numbers-none : t ≡ put t (numbers (take 0 s))
   unfolding put numbers
   numbers-none = refl
 
-  pub numbers_more : (m : List ℕ) (p : ℕ) (k : List ℕ) (q i v : ℕ) → i < length s → text m p ≡ put (text l at) (numbers (take i s)) → v ≡ get_or s i 0 → text k q ≡ put (text m p) (9 ∷ decimal v) → text k q ≡ put (text l at) (numbers (take (i + 1) s))
-  numbers_more m p k q i v h e w f = rw (add-one, take-suc s i 0 h, numbers-last (take i s) (get_or s i 0), ← put-append (text l at) (numbers (take i s)) (9 ∷ decimal (get_or s i 0)), ← e, ← w) f
+  pub numbers_more : (u v : Text) (i n : ℕ) → i < length s → u ≡ put t (numbers (take i s)) → n ≡ get_or s i 0 → v ≡ put u (9 ∷ decimal n) → v ≡ put t (numbers (take (i + 1) s))
+  numbers_more u v i n h e w f = rw (add-one, take-suc s i 0 h, numbers-last (take i s) (get_or s i 0), ← put-append t (numbers (take i s)) (9 ∷ decimal (get_or s i 0)), ← e, ← w) f
 
-  pub numbers-done : (m : List ℕ) (p i : ℕ) → length s ≤ i → text m p ≡ put (text l at) (numbers (take i s)) → text m p ≡ put (text l at) (numbers s)
-  numbers-done m p i h e = rw (take_all i s h) at e
+  pub numbers-done : (u : Text) (i : ℕ) → length s ≤ i → u ≡ put t (numbers (take i s)) → u ≡ put t (numbers s)
+  numbers-done u i h e = rw (take_all i s h) at e
 
-module _ (l : List ℕ) (at n : ℕ) (k : List ℕ) (q : ℕ) where
-  pub digits-small : n < 10 → text k q ≡ push (text l at) (48 + n) → PutDigits l at n k q
+module _ (t : Text) (n : ℕ) (v : Text) where
+  pub digits-small : n < 10 → v ≡ push t (48 + n) → PutDigits t n v
   unfolding digits put pick
   digits-small h e zero g = absurd (omega arith)
   digits-small h e (suc f) g = rw (lt-ltb n 10 h) e
 
-  pub digits_more : (m : List ℕ) (p : ℕ) → 10 ≤ n → PutDigits l at (n / 10) m p → text k q ≡ push (text m p) (48 + n % 10) → PutDigits l at n k q
+  pub digits_more : (u : Text) → 10 ≤ n → PutDigits t (n / 10) u → v ≡ push u (48 + n % 10) → PutDigits t n v
   unfolding digits pick
-  digits_more m p h d e zero g = absurd (omega arith)
-  digits_more m p h d e (suc f) g = rw (le-ltb n 10 h, ← put_last (text l at) (digits f (n / 10)) (48 + n % 10), ← d f (omega arith)) e
+  digits_more u h d e zero g = absurd (omega arith)
+  digits_more u h d e (suc f) g = rw (le-ltb n 10 h, ← put_last t (digits f (n / 10)) (48 + n % 10), ← d f (omega arith)) e
 
-  pub decimal-put : PutDigits l at n k q → text k q ≡ put (text l at) (decimal n)
+  pub decimal-put : PutDigits t n v → v ≡ put t (decimal n)
   unfolding decimal
   decimal-put d = d (suc n) (omega arith)
 
-  pub number_put : (m : List ℕ) (p : ℕ) → text m p ≡ push (text l at) 9 → text k q ≡ put (text m p) (decimal n) → text k q ≡ put (text l at) (9 ∷ decimal n)
+  pub number_put : (u : Text) → u ≡ push t 9 → v ≡ put u (decimal n) → v ≡ put t (9 ∷ decimal n)
   unfolding put
-  number_put m p e d = d ∙ ap (λ (t : Text). put t (decimal n)) e
+  number_put u e d = d ∙ ap (λ (t : Text). put t (decimal n)) e
 
 pub rest_put : (t u v : Text) (ns : List ℕ) → u ≡ put t (numbers ns) → v ≡ push u 10 → v ≡ put t (rest ns)
 unfolding rest

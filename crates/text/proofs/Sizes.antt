@@ -5,14 +5,14 @@ use mathlib.Core.List.{List}
 use Prim.Native.Nat.{ℕ, ◌≤◌, ◌<◌}
 use native.Mathlib.Omega.{arith}
 use lib.ListN.{length}
-use Rattle.text.specs.declared.read.Read.TheVariants.{Refused}
+use Rattle.std.specs.Prelude.{None}
 use Rattle.text.specs.Plain.{plain_text}
 use Rattle.text.specs.Read.{answer_of}
 use Rattle.text.specs.Write.{output_room}
 use Rattle.text.proofs.Lengths.{too_long}
 
 -- read.rt's LONGEST
-pub longest-text : (x : List ℕ) → 72858 < length x → answer_of (plain_text 64 512 x) ≡ Refused
+pub longest-text : (x : List ℕ) → 72858 < length x → answer_of (plain_text 64 512 x) ≡ None
 longest-text x h = too_long 64 512 x (omega arith) h
 
 -- write.rt's ROOM

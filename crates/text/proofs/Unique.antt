@@ -2,13 +2,14 @@
 use mathlib.Core.Path.{◌≡◌, sym, ◌∙◌}
 use mathlib.Core.List.{List}
 use Prim.Native.Nat.{ℕ}
-use Rattle.text.specs.declared.read.Read.{Read}
+use Rattle.std.specs.Prelude.{Option}
+use Rattle.text.specs.declared.read.Table.{Table}
 use Rattle.text.specs.Read.{read_text}
 use Rattle.text.specs.Read.Stored.{stored}
 use Rattle.text.specs.Write.{Written}
 
 -- `read_text`: the answer, the addresses and the nodes
-pub read-unique : (x a b : List ℕ) (r r' : Read) (c c' d d' : List ℕ) → stored r c d ≡ read_text x a b → stored r' c' d' ≡ read_text x a b → (r ≡ r') × (c ≡ c') × (d ≡ d')
+pub read-unique : (x a b : List ℕ) (r r' : Option Table) (c c' d d' : List ℕ) → stored r c d ≡ read_text x a b → stored r' c' d' ≡ read_text x a b → (r ≡ r') × (c ≡ c') × (d ≡ d')
 read-unique x a b r r' c c' d d' p q = let e : stored r c d ≡ stored r' c' d' = p ∙ sym q in (cc, cc, cc)
 
 -- `write` and `write_refused`: the count and the buffer, whatever the bytes are

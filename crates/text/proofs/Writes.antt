@@ -1,7 +1,7 @@
 -- What the lines written one after the other come to.
 use mathlib.Core.Path.{◌≡◌, refl, ap, ◌∙◌}
 use mathlib.Core.List.{List, ◌∷◌, append_assoc}
-use Prim.Native.Nat.{ℕ, ◌+◌, ◌≤◌}
+use Prim.Native.Nat.{ℕ, ◌+◌, ◌-◌, ◌≤◌}
 use native.Mathlib.Omega.{arith}
 use native.Mathlib.Numerals.{add-one}
 use lib.ListN.{length, get_or}
@@ -40,9 +40,14 @@ module _ (map offsets marks : List ℕ) (i : ℕ) (t : Text) where
   unfolding bits_line pick
   marked u h e = rw (ne_eqb (get_or marks i 0) 0 h) e
 
-pub next-put : (map offsets marks : List ℕ) (k : ℕ) (t u : Text) → u ≡ put t (bits_line map offsets marks (k + 1)) → u ≡ put t (next_bits map offsets marks k)
+-- node i is the one after i - 1 nodes
+pub bits_more : (map offsets marks : List ℕ) (t u v : Text) (i : ℕ) → 1 ≤ i → u ≡ put t (each (i - 1) (next_bits map offsets marks)) → v ≡ put u (bits_line map offsets marks i)
+    → v ≡ put t (each (i + 1 - 1) (next_bits map offsets marks))
 unfolding next_bits
-next-put map offsets marks k t u e = e
+bits_more map offsets marks t u v i h e f =
+    let y : i + 1 - 1 ≡ i - 1 + 1 = omega arith in
+    let z : i - 1 + 1 ≡ i = omega arith in
+    rw y (each_more (next_bits map offsets marks) t u v (i - 1) e (rw z f))
 
 output-put : (gates map offsets marks cs : List ℕ) (t a b c d : Text)
     → a ≡ put t (each (gate_count gates) (gate_line gates)) → b ≡ put a (each (node_count marks) (next_bits map offsets marks))
@@ -53,19 +58,19 @@ output-put gates map offsets marks cs t a b c d e₁ e₂ e₃ e₄ =
     rw (e₄, e₃, e₂, e₁, put-append, put-append, put-append) (ap (put t) (simp append_assoc))
 
 -- with room nothing is left out
-pub room-put : (l bs m : List ℕ) (r : ℕ) → length bs ≤ length l → text m r ≡ put (text l 0) bs → Written l bs m r
-room-put l bs m r h e =
+pub room-put : (l bs k m : List ℕ) (r : ℕ) → k ≡ m → length bs ≤ length l → text m r ≡ put (text l 0) bs → Written l bs k r
+room-put l bs k m r same h e =
     let z : 0 + length bs ≡ length bs = omega arith in
     let q : text m r ≡ text (sets l 0 bs) (length bs) = rw z at (e ∙ put-room bs l 0 (omega arith)) in
     let n : r ≡ length bs = cc in
     let s : m ≡ sets l 0 bs = cc in
-    (n, s ∙ rw z at (sets-eq bs l 0 (omega arith)))
+    (n, same ∙ s ∙ rw z at (sets-eq bs l 0 (omega arith)))
 
 -- g is the code's count of the gates
-pub written : (gates map offsets marks cs l m₁ : List ℕ) (r₁ : ℕ) (m₂ : List ℕ) (r₂ : ℕ) (m₃ : List ℕ) (r₃ : ℕ) (m : List ℕ) (r g : ℕ)
-    → length (output gates map offsets marks cs) ≤ length l → g ≡ gate_count gates
-    → text m₁ r₁ ≡ put (text l 0) (each (gate_count gates) (gate_line gates)) → text m₂ r₂ ≡ put (text m₁ r₁) (each (node_count marks) (next_bits map offsets marks))
-    → text m₃ r₃ ≡ put (text m₂ r₂) (each (constraint_count cs) (constraint_line cs)) → text m r ≡ put (text m₃ r₃) (done_line g (constraint_count cs))
-    → Written l (output gates map offsets marks cs) m r
-written gates map offsets marks cs l m₁ r₁ m₂ r₂ m₃ r₃ m r g h q e₁ e₂ e₃ e₄ =
-    room-put l (output gates map offsets marks cs) m r h (output-put gates map offsets marks cs (text l 0) _ _ _ _ e₁ e₂ e₃ (rw q at e₄))
+pub written : (gates map offsets marks cs l : List ℕ) (a b c : Text) (k m : List ℕ) (r g : ℕ)
+    → k ≡ m → length (output gates map offsets marks cs) ≤ length l → g ≡ gate_count gates
+    → a ≡ put (text l 0) (each (gate_count gates) (gate_line gates)) → b ≡ put a (each (node_count marks) (next_bits map offsets marks))
+    → c ≡ put b (each (constraint_count cs) (constraint_line cs)) → text m r ≡ put c (done_line g (constraint_count cs))
+    → Written l (output gates map offsets marks cs) k r
+written gates map offsets marks cs l a b c k m r g same h q e₁ e₂ e₃ e₄ =
+    room-put l (output gates map offsets marks cs) k m r same h (output-put gates map offsets marks cs (text l 0) _ _ _ _ e₁ e₂ e₃ (rw q at e₄))

@@ -1,12 +1,9 @@
--- Fields found one after the other by a place in the text that moves on: what the code does. proofs/Pairs.antt and Nodes.antt have that
--- the lines so found are the rows of specs/Plain.antt.
-use Rattle.std.specs.Prelude.{List, [], ◌∷◌, Bool, false, not, ◌&&◌, ◌||◌, ℕ, suc, ◌+◌, eqb, ltb, length, get_or, take, drop}
-use Rattle.loops.specs.Loop.{pick, first}
-use Rattle.text.specs.declared.field.Part.{Part}
-use Rattle.text.specs.declared.field.Field.{Field}
-use Rattle.text.specs.Number.{number, valid, value}
-use Rattle.text.specs.Name.{kind_count}
-use Rattle.text.specs.Key.{key, is_kind}
+-- The field that a text begins with, and what follows it: what the code does. proofs/Pairs.antt and Nodes.antt have that the lines so found
+-- are the rows of specs/Plain.antt.
+use Rattle.std.specs.Prelude.{List, [], ◌∷◌, Bool, ◌||◌, ℕ, suc, Option, Some, None, eqb, take, drop, option_map, option_and_then}
+use Rattle.loops.specs.Loop.{pick}
+use Rattle.text.specs.Number.{number}
+use Rattle.text.specs.Name.{same, kind}
 
 -- a tab or a newline
 unfoldable pub parts : ℕ → Bool
@@ -17,52 +14,40 @@ unfoldable pub span : List ℕ → ℕ
 span [] = 0
 span (c ∷ cs) = pick (parts c) 0 (suc (span cs))
 
--- the field that begins at a place, and where it ends
-unfoldable pub field_at : List ℕ → ℕ → List ℕ
-field_at x at = take (span (drop at x)) (drop at x)
+-- the field f, where a tab is at the head of what is behind it, and what follows the tab
+unfoldable pub if_tab : List ℕ → List ℕ → Option (List ℕ × List ℕ)
+if_tab f [] = None
+if_tab f (c ∷ cs) = pick (eqb c 9) (Some (f, cs)) None
 
-unfoldable pub end_of : List ℕ → ℕ → ℕ
-end_of x at = at + span (drop at x)
+-- the field f, where none is, and the lines after it
+unfoldable pub if_end : List ℕ → List ℕ → Option (List ℕ × List ℕ)
+if_end f [] = Some (f, [])
+if_end f (c ∷ cs) = pick (eqb c 9) None (Some (f, cs))
 
--- whether a tab follows, and where the next field begins
-unfoldable pub part_at : List ℕ → ℕ → Part
-part_at x at =
-    pick (ltb (end_of x at) (length x))
-    (record { end = end_of x at; tab = eqb (get_or x (end_of x at) 0) 9; next = end_of x at + 1 })
-    (record { end = end_of x at; tab = false; next = end_of x at })
+-- a field that a tab follows; a line's last field
+unfoldable pub inner : List ℕ → Option (List ℕ × List ℕ)
+inner s = if_tab (take (span s) s) (drop (span s) s)
 
--- a line's first field, which is to have this key
-unfoldable pub name_field : List ℕ → ℕ → ℕ → Field
-name_field x at name =
-    record {
-      good = eqb (key (field_at x at)) name;
-      value = 0;
-      tab = (part_at x at).tab;
-      next = (part_at x at).next;
-    }
+unfoldable pub last : List ℕ → Option (List ℕ × List ℕ)
+last s = if_end (take (span s) s) (drop (span s) s)
 
--- the field after f, a number
-unfoldable pub number_field : List ℕ → Field → Field
-number_field x f =
-    record {
-      good = f.good && f.tab && valid (number (field_at x f.next));
-      value = value (number (field_at x f.next));
-      tab = (part_at x f.next).tab;
-      next = (part_at x f.next).next;
-    }
+-- the name of a line, which is to be this one
+unfoldable pub name_field : List ℕ → List ℕ → Option (List ℕ)
+name_field name s = option_and_then (λ (p : List ℕ × List ℕ). pick (same p.0 name) (Some p.1) None) (inner s)
 
--- the field after f, a kind's name
-unfoldable pub kind_field : List ℕ → Field → Field
-kind_field x f =
-    record {
-      good = f.good && f.tab && ltb (first kind_count (is_kind (key (field_at x f.next)))) kind_count;
-      value = first kind_count (is_kind (key (field_at x f.next))) + 1;
-      tab = (part_at x f.next).tab;
-      next = (part_at x f.next).next;
-    }
+-- a field's value, and what follows the field
+abbrev pub valued : (List ℕ → Option ℕ) → Option (List ℕ × List ℕ) → Option (ℕ × List ℕ)
+valued of o = option_and_then (λ (p : List ℕ × List ℕ). option_map (λ (v : ℕ). (v, p.1)) (of p.0)) o
+
+unfoldable pub number_field : List ℕ → Option (ℕ × List ℕ)
+number_field s = valued number (inner s)
+
+unfoldable pub kind_field : List ℕ → Option (ℕ × List ℕ)
+kind_field s = valued kind (inner s)
+
+unfoldable pub last_number : List ℕ → Option (ℕ × List ℕ)
+last_number s = valued number (last s)
 
 -- a line of a name and a number
-unfoldable pub pair_line : List ℕ → ℕ → ℕ → Field
-pair_line x at name =
-    let f : Field = number_field x (name_field x at name) in
-    record { good = f.good && not f.tab; value = f.value; tab = f.tab; next = f.next }
+unfoldable pub pair_line : List ℕ → List ℕ → Option (ℕ × List ℕ)
+pair_line name s = option_and_then last_number (name_field name s)

@@ -2,9 +2,9 @@ pub mod Number
 pub mod Line
 pub mod Over
 pub mod Put
+pub mod Writer
 pub mod Write
 pub mod Name
-pub mod Key
 pub mod Rows
 pub mod Plain
 pub mod Field

@@ -1,12 +1,11 @@
 -- The names of lines and of kinds.
-use Rattle.std.specs.Prelude.{List, [], ◌∷◌, Bool, true, false, ◌&&◌, ℕ, eqb, get_or}
-use Rattle.loops.specs.Loop.{first}
+use Rattle.std.specs.Prelude.{List, [], ◌∷◌, Bool, ℕ, ◌+◌, Option, option_map, get_or}
+use Rattle.std.specs.Str.{bytes_eq}
+use Rattle.loops.specs.Loop.{first, found}
 
+-- the same bytes
 unfoldable pub same : List ℕ → List ℕ → Bool
-same [] [] = true
-same [] (d ∷ ds) = false
-same (c ∷ cs) [] = false
-same (c ∷ cs) (d ∷ ds) = eqb c d && same cs ds
+same s t = bytes_eq s t
 
 -- word
 unfoldable pub word_name : List ℕ
@@ -59,3 +58,7 @@ is_named s i = same (get_or kind_names i []) s
 -- how many kinds stand before the one of this name; their number where there is none
 unfoldable pub place_of : List ℕ → ℕ
 place_of s = first kind_count (is_named s)
+
+-- the number of the kind of this name
+unfoldable pub kind : List ℕ → Option ℕ
+kind s = option_map (λ (i : ℕ). i + 1) (found kind_count (is_named s))

@@ -1,14 +1,13 @@
 -- The text of a table, as document 01's "The program" has it: "tab-parted lines"; "one `word`, first; `addr` lines, each with one address, follow
 -- it"; "nodes come in order from 1, kinds by the names above". `rows` are a text's lines, each cut into its fields; the last line's newline
 -- may be missing. An empty line has one field, which is no name; carriage returns and blanks are bytes like others. So each is refused.
-use Rattle.std.specs.Prelude.{List, [], ◌∷◌, Bool, false, ◌&&◌, ℕ, zero, suc, ◌+◌, eqb, ltb, leb, length, get_or, drop}
+use Rattle.std.specs.Prelude.{List, [], ◌∷◌, Bool, false, ◌&&◌, ℕ, zero, suc, ◌+◌, Option, eqb, ltb, leb, length, get_or, drop}
 use Rattle.loops.specs.Loop.{pick}
-use Rattle.text.specs.declared.number.Num.{Num}
 use Rattle.text.specs.Number.{number, valid, value}
 use Rattle.text.specs.Name.{same, word_name, addr_name, node_name, kind_count, place_of}
 use Rattle.text.specs.Rows.{rows}
 
-unfoldable pub number_at : List (List ℕ) → ℕ → Num
+unfoldable pub number_at : List (List ℕ) → ℕ → Option ℕ
 number_at row k = number (get_or row k [])
 
 unfoldable pub kind_at : List (List ℕ) → ℕ → ℕ

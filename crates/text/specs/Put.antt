@@ -15,5 +15,5 @@ put t [] = t
 put t (b ∷ bs) = put (push t b) bs
 
 -- the digits of n were put, whatever number above n is taken
-abbrev pub PutDigits : List ℕ → ℕ → ℕ → List ℕ → ℕ → Type 0
-PutDigits l i n m r = (f : ℕ) → n < f → text m r ≡ put (text l i) (digits f n)
+abbrev pub PutDigits : Text → ℕ → Text → Type 0
+PutDigits t n u = (f : ℕ) → n < f → u ≡ put t (digits f n)

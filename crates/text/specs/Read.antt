@@ -1,8 +1,7 @@
 -- A table's text read into two lent buffers: `plain_text`, stored.
-use Rattle.std.specs.Prelude.{List, [], ◌∷◌, ◌++◌, Bool, true, false, ℕ, ◌+◌, ◌-◌, ◌*◌, ◌/◌, length, drop}
+use Rattle.std.specs.Prelude.{List, [], ◌∷◌, ◌++◌, Bool, true, false, ℕ, ◌+◌, ◌-◌, ◌*◌, ◌/◌, Option, Some, None, length, drop}
 use Rattle.std.proofs.lemmas.List.Edits.{sets}
-use Rattle.text.specs.declared.read.Read.{Read}
-use Rattle.text.specs.declared.read.Read.TheVariants.{Refused, Table}
+use Rattle.text.specs.declared.read.Table.{Table}
 use Rattle.text.specs.Over.{over}
 use Rattle.text.specs.Plain.{Plain, lead, plain_text}
 use Rattle.text.specs.Plain.Plain.{plain}
@@ -19,13 +18,13 @@ flat [] = []
 flat (r ∷ rs) = r ++ flat rs
 
 -- the answer
-unfoldable pub answer_of : Plain → Read
-answer_of (plain true w xs ns) = Table w (length xs) (length ns)
-answer_of (plain false w xs ns) = Refused
+unfoldable pub answer_of : Plain → Option Table
+answer_of (plain true w xs ns) = Some (record { word = w; addrs = length xs; nodes = length ns })
+answer_of (plain false w xs ns) = None
 
 -- the answer, the addresses and the nodes
 pub data Stored : Type 0 where
-  stored : Read → List ℕ → List ℕ → Stored
+  stored : Option Table → List ℕ → List ℕ → Stored
 
 -- the records from the buffers' beginnings on; where the text is no table's, those of the lines before the first that is at fault
 unfoldable pub stored_of : List ℕ → List ℕ → Plain → Stored

@@ -1,107 +1,113 @@
-// Bytes put into a lent buffer, one after the other: names, numbers, lines. Each function answers the next free place. A byte for
-// which there is no room is left out, so that nothing here asks for room: `write` asks for it once, for all lines together.
+// Bytes written into a lent buffer, one after the other: names, numbers, lines. A byte for which there is no room is left out, so that
+// nothing here asks for room: `write` asks for it once, for all lines together.
 ghost use Rattle.std.specs.Prelude.{◌≡◌, ◌∷◌, []};
 ghost use Rattle.text.specs.Put.{push, put, PutDigits};
-ghost use Rattle.text.specs.Put.Text.{text};
+ghost use Rattle.text.specs.Writer.{so_far};
 ghost use Rattle.text.specs.Number.{decimal};
 ghost use Rattle.text.specs.Line.{numbers, line, rest};
 
-fn put_byte(out: &mut [u8], at: usize, b: u8) -> usize
-    ensures { text out.new result ≡ push (text out.old at) b }
-{
-    if at < out.len() {
-        out[at] = b;
-        return at + 1;
+// A lent buffer, and the place of its next byte.
+#[derive(Drop)]
+pub struct Writer<'a> {
+    pub out: &'a mut [u8],
+    pub at: usize,
+}
+
+impl<'a> Writer<'a> {
+    fn byte(&mut self, b: u8)
+        ensures after { so_far self.new ≡ push (so_far self.old) b }
+        ensures same { self.new.out.ghost_name ≡ self.old.out.ghost_name }
+    {
+        let at = self.at;
+        if at < self.out.len() {
+            self.out[at] = b;
+            self.at = at + 1;
+        }
     }
-    at
-}
 
-pub fn put_bytes(out: &mut [u8], at: usize, bytes: &[u8]) -> usize
-    ensures { text out.new result ≡ put (text out.old at) bytes.now }
-{
-    let mut p = at;
-    let mut i = 0;
-    while i < bytes.len() {
-        p = put_byte(out, p, bytes[i]);
-        i += 1;
+    pub fn bytes(&mut self, bytes: &[u8])
+        ensures after { so_far self.new ≡ put (so_far self.old) bytes.now }
+        ensures same { self.new.out.ghost_name ≡ self.old.out.ghost_name }
+    {
+        for b in bytes {
+            self.byte(*b);
+        }
     }
-    p
-}
 
-// The digits of n, highest first.
-fn put_digits(out: &mut [u8], at: usize, n: u64) -> usize
-    ensures { PutDigits out.old at n out.new result }
-{
-    if n < 10 {
-        return put_byte(out, at, 48 + n as u8);
+    // The digits of n, highest first. By hand: `write!` promises its bytes only where it answers Ok, and nothing promises that it does.
+    fn digits(&mut self, n: u64)
+        ensures after { PutDigits (so_far self.old) n (so_far self.new) }
+        ensures same { self.new.out.ghost_name ≡ self.old.out.ghost_name }
+    {
+        if n < 10 {
+            self.byte(b'0' + n as u8);
+            return;
+        }
+        self.digits(n / 10);
+        self.byte(b'0' + (n % 10) as u8);
     }
-    let p = put_digits(out, at, n / 10);
-    put_byte(out, p, 48 + (n % 10) as u8)
-}
 
-pub fn put_decimal(out: &mut [u8], at: usize, n: u64) -> usize
-    ensures { text out.new result ≡ put (text out.old at) (decimal n) }
-{
-    put_digits(out, at, n)
-}
-
-// A tab and a number.
-fn put_number(out: &mut [u8], at: usize, n: u64) -> usize
-    ensures { text out.new result ≡ put (text out.old at) (9 ∷ decimal n) }
-{
-    let p = put_byte(out, at, 9);
-    put_decimal(out, p, n)
-}
-
-fn wide(x: u32) -> u64
-    ensures { result ≡ x }
-{
-    x as u64
-}
-
-fn put_numbers(out: &mut [u8], at: usize, ns: &[u32]) -> usize
-    ensures { text out.new result ≡ put (text out.old at) (numbers ns.now) }
-{
-    let mut p = at;
-    let mut i = 0;
-    while i < ns.len() {
-        p = put_number(out, p, wide(ns[i]));
-        i += 1;
+    pub fn decimal(&mut self, n: u64)
+        ensures after { so_far self.new ≡ put (so_far self.old) (decimal n) }
+        ensures same { self.new.out.ghost_name ≡ self.old.out.ghost_name }
+    {
+        self.digits(n);
     }
-    p
-}
 
-// The numbers of a line and its newline.
-fn put_rest(out: &mut [u8], at: usize, ns: &[u32]) -> usize
-    ensures { text out.new result ≡ put (text out.old at) (rest ns.now) }
-{
-    let p = put_numbers(out, at, ns);
-    put_byte(out, p, 10)
-}
+    // A tab and a number.
+    fn number(&mut self, n: u64)
+        ensures after { so_far self.new ≡ put (so_far self.old) (9 ∷ decimal n) }
+        ensures same { self.new.out.ghost_name ≡ self.old.out.ghost_name }
+    {
+        self.byte(b'\t');
+        self.decimal(n);
+    }
 
-// A line of a record.
-pub fn put_record(out: &mut [u8], at: usize, name: &[u8], ns: &[u32]) -> usize
-    ensures { text out.new result ≡ put (text out.old at) (line name.now ns.now) }
-{
-    let p = put_bytes(out, at, name);
-    put_rest(out, p, ns)
-}
+    fn numbers(&mut self, ns: &[u32])
+        ensures after { so_far self.new ≡ put (so_far self.old) (numbers ns.now) }
+        ensures same { self.new.out.ghost_name ≡ self.old.out.ghost_name }
+    {
+        for n in ns {
+            self.number(u64::from(*n));
+        }
+    }
 
-// A line of a record that has a number of its own.
-pub fn put_numbered(out: &mut [u8], at: usize, name: &[u8], n: u64, ns: &[u32]) -> usize
-    ensures { text out.new result ≡ put (text out.old at) (line name.now (n ∷ ns.now)) }
-{
-    let p = put_bytes(out, at, name);
-    let q = put_number(out, p, n);
-    put_rest(out, q, ns)
-}
+    // The numbers of a line and its newline.
+    fn rest(&mut self, ns: &[u32])
+        ensures after { so_far self.new ≡ put (so_far self.old) (rest ns.now) }
+        ensures same { self.new.out.ghost_name ≡ self.old.out.ghost_name }
+    {
+        self.numbers(ns);
+        self.byte(b'\n')
+    }
 
-// A line of two numbers.
-pub fn put_pair(out: &mut [u8], at: usize, name: &[u8], n: u64, m: u64) -> usize
-    ensures { text out.new result ≡ put (text out.old at) (line name.now (n ∷ m ∷ [])) }
-{
-    let p = put_bytes(out, at, name);
-    let q = put_number(out, p, n);
-    let s = put_number(out, q, m);
-    put_byte(out, s, 10)
+    // A line of a record.
+    pub fn record(&mut self, name: &[u8], ns: &[u32])
+        ensures after { so_far self.new ≡ put (so_far self.old) (line name.now ns.now) }
+        ensures same { self.new.out.ghost_name ≡ self.old.out.ghost_name }
+    {
+        self.bytes(name);
+        self.rest(ns);
+    }
+
+    // A line of a record that has a number of its own.
+    pub fn numbered(&mut self, name: &[u8], n: u64, ns: &[u32])
+        ensures after { so_far self.new ≡ put (so_far self.old) (line name.now (n ∷ ns.now)) }
+        ensures same { self.new.out.ghost_name ≡ self.old.out.ghost_name }
+    {
+        self.bytes(name);
+        self.number(n);
+        self.rest(ns);
+    }
+
+    // A line of two numbers.
+    pub fn pair(&mut self, name: &[u8], n: u64, m: u64)
+        ensures after { so_far self.new ≡ put (so_far self.old) (line name.now (n ∷ m ∷ [])) }
+        ensures same { self.new.out.ghost_name ≡ self.old.out.ghost_name }
+    {
+        self.bytes(name);
+        self.number(n);
+        self.number(m);
+        self.byte(b'\n');
+    }
 }

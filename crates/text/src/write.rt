@@ -2,10 +2,11 @@
 ghost use Rattle.std.specs.Prelude.{◌≡◌, ◌+◌, ◌*◌, ◌≤◌, ◌<◌, length, get_or};
 ghost use Rattle.netlist.specs.Record.{used, Room};
 ghost use Rattle.text.specs.Put.{put};
-ghost use Rattle.text.specs.Put.Text.{text};
-ghost use Rattle.text.specs.Write.{constraint_size, gate_count, constraint_count, gate_line, bits_line, next_bits, node_count, constraint_line, refused_line, each, output, Offsets, output_room, refused_room, Written};
+ghost use Rattle.text.specs.Writer.{so_far};
+ghost use Rattle.text.specs.Write.{constraint_size, gate_count, constraint_count, gate_line, bits_line, next_bits, node_count, constraint_line, refused_line};
+ghost use Rattle.text.specs.Write.{each, output, Offsets, output_room, refused_room, Written};
 
-use crate::put::{put_numbered, put_pair, put_record};
+use crate::put::Writer;
 use netlist::record;
 
 // Bytes that are always enough for 4,096 gates, 512 nodes, 16,384 map places and 8,192 constraints.
@@ -23,82 +24,68 @@ fn taken(gates: &[u32], n: usize) -> usize
     first.len()
 }
 
-fn gate_line(out: &mut [u8], at: usize, gates: &[u32], i: usize) -> usize
+fn gate_line(lines: &mut Writer, gates: &[u32], i: usize)
     requires { Room gates.now (i + 1) }
-    ensures { text out.new result ≡ put (text out.old at) (gate_line gates.now i) }
+    ensures after { so_far lines.new ≡ put (so_far lines.old) (gate_line gates.now i) }
+    ensures same { lines.new.out.ghost_name ≡ lines.old.out.ghost_name }
 {
     let o = taken(gates, i);
     let e = taken(gates, i + 1);
-    put_numbered(out, at, b"gate", i as u64, &gates[o..e])
+    lines.numbered(b"gate", i as u64, &gates[o..e]);
 }
 
-fn gate_lines(out: &mut [u8], at: usize, gates: &[u32]) -> usize
-    ensures { text out.new result ≡ put (text out.old at) (each (gate_count gates.now) (gate_line gates.now)) }
+fn gate_lines(lines: &mut Writer, gates: &[u32])
+    ensures after { so_far lines.new ≡ put (so_far lines.old) (each (gate_count gates.now) (gate_line gates.now)) }
+    ensures same { lines.new.out.ghost_name ≡ lines.old.out.ghost_name }
 {
     let n = record::count(gates);
-    let mut p = at;
-    let mut i = 0;
-    while i < n {
-        p = gate_line(out, p, gates, i);
-        i += 1;
+    for i in 0..n {
+        gate_line(lines, gates, i);
     }
-    p
 }
 
 // The line of node i, where it is marked as reached.
-fn bits_line(
-    out: &mut [u8],
-    at: usize,
-    map: &[u32],
-    offsets: &[usize],
-    marks: &[u8],
-    i: usize,
-) -> usize
+fn bits_line(lines: &mut Writer, map: &[u32], offsets: &[usize], marks: &[u8], i: usize)
     requires i_in_bounds { (i + 1 < length offsets.now) × (i < length marks.now) }
     requires i_bound { (get_or offsets.now i 0 ≤ get_or offsets.now (i + 1) 0) × (get_or offsets.now (i + 1) 0 ≤ length map.now) }
-    ensures { text out.new result ≡ put (text out.old at) (bits_line map.now offsets.now marks.now i) }
+    ensures after { so_far lines.new ≡ put (so_far lines.old) (bits_line map.now offsets.now marks.now i) }
+    ensures same { lines.new.out.ghost_name ≡ lines.old.out.ghost_name }
 {
     if marks[i] == 0 {
-        return at;
+        return;
     }
     let o = offsets[i];
     let e = offsets[i + 1];
-    put_numbered(out, at, b"bits", i as u64, &map[o..e])
+    lines.numbered(b"bits", i as u64, &map[o..e]);
 }
 
-fn bits_lines(out: &mut [u8], at: usize, map: &[u32], offsets: &[usize], marks: &[u8]) -> usize
+fn bits_lines(lines: &mut Writer, map: &[u32], offsets: &[usize], marks: &[u8])
     requires { Offsets offsets.now map.now (length marks.now) }
-    ensures { text out.new result ≡ put (text out.old at) (each (node_count marks.now) (next_bits map.now offsets.now marks.now)) }
+    ensures after { so_far lines.new ≡ put (so_far lines.old) (each (node_count marks.now) (next_bits map.now offsets.now marks.now)) }
+    ensures same { lines.new.out.ghost_name ≡ lines.old.out.ghost_name }
 {
-    let mut p = at;
-    let mut k = 0;
-    while k + 1 < marks.len() {
-        p = bits_line(out, p, map, offsets, marks, k + 1);
-        k += 1;
+    for i in 1..marks.len() {
+        bits_line(lines, map, offsets, marks, i);
     }
-    p
 }
 
-fn constraint_line(out: &mut [u8], at: usize, constraints: &[u32], i: usize) -> usize
+fn constraint_line(lines: &mut Writer, constraints: &[u32], i: usize)
     requires { constraint_size * i + constraint_size ≤ length constraints.now }
-    ensures { text out.new result ≡ put (text out.old at) (constraint_line constraints.now i) }
+    ensures after { so_far lines.new ≡ put (so_far lines.old) (constraint_line constraints.now i) }
+    ensures same { lines.new.out.ghost_name ≡ lines.old.out.ghost_name }
 {
     let o = CONSTRAINT_SIZE * i;
-    let e = CONSTRAINT_SIZE * i + CONSTRAINT_SIZE;
-    put_record(out, at, b"constraint", &constraints[o..e])
+    lines.record(b"constraint", &constraints[o..o + CONSTRAINT_SIZE]);
 }
 
-fn constraint_lines(out: &mut [u8], at: usize, constraints: &[u32]) -> usize
-    ensures { text out.new result ≡ put (text out.old at) (each (constraint_count constraints.now) (constraint_line constraints.now)) }
+fn constraint_lines(lines: &mut Writer, constraints: &[u32])
+    ensures after { so_far lines.new ≡ put (so_far lines.old) (each (constraint_count constraints.now) (constraint_line constraints.now)) }
+    ensures same { lines.new.out.ghost_name ≡ lines.old.out.ghost_name }
 {
     let n = constraints.len() / CONSTRAINT_SIZE;
-    let mut p = at;
-    let mut i = 0;
-    while i < n {
-        p = constraint_line(out, p, constraints, i);
-        i += 1;
+    for i in 0..n {
+        constraint_line(lines, constraints, i);
     }
-    p
 }
 
 // All that is printed of a lowered table, from the buffer's first byte on; answers how many bytes it is. `gates` and `constraints` are
@@ -115,12 +102,14 @@ pub fn write(
     requires constraints_in_bounds { output_room (gate_count gates.now) (node_count marks.now) (length map.now) (constraint_count constraints.now) ≤ length out.old }
     ensures { Written out.old (output gates.now map.now offsets.now marks.now constraints.now) out.new result }
 {
-    let p = gate_lines(out, 0, gates);
-    let q = bits_lines(out, p, map, offsets, marks);
-    let s = constraint_lines(out, q, constraints);
+    let mut lines = Writer { out, at: 0 };
+    gate_lines(&mut lines, gates);
+    bits_lines(&mut lines, map, offsets, marks);
+    constraint_lines(&mut lines, constraints);
     let g = record::count(gates);
     let k = constraints.len() / CONSTRAINT_SIZE;
-    put_pair(out, s, b"done", g as u64, k as u64)
+    lines.pair(b"done", g as u64, k as u64);
+    lines.at
 }
 
 // A refusal's one line, from the buffer's first byte on.
@@ -128,5 +117,7 @@ pub fn write_refused(number: u64, node: u64, out: &mut [u8]) -> usize
     requires { refused_room ≤ length out.old }
     ensures { Written out.old (refused_line number node) out.new result }
 {
-    put_pair(out, 0, b"refused", number, node)
+    let mut lines = Writer { out, at: 0 };
+    lines.pair(b"refused", number, node);
+    lines.at
 }

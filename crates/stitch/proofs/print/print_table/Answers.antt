@@ -1,16 +1,77 @@
+use mathlib.Core.Path.{refl, sym}
+use native.Mathlib.Omega.{arith}
 use borrow.Author.Tests.{not-true, not-false}
+use lib.Seq.{length-take-le}
 use Rattle.nodes.specs.Source.{source}
-use Rattle.stitch.proofs.Facts.{refused-fits, table-refused, done-asks, table_done}
+use Rattle.netlist.specs.Record.{used}
+use Rattle.stitch.specs.Printed.{cleared}
+use Rattle.stitch.proofs.Facts.{refused-fits, table-refused, used-fits, done-asks, table_done}
 use Rattle.stitch.proofs.print.print_table.Goals as goal
 
 pub write_refused-requires : goal.write_refused-requires
-write_refused-requires c = refused-fits _ c.requires.in_bounds
+write_refused-requires c = refused-fits _ c.requires
 
-pub returns-then-not-made : goal.returns-then-not-made
-returns-then-not-made c = table-refused (source c.args.table.now c.args.addrs.now c.args.word) c.args.gates.now c.args.constraints.now c.args.map.now c.args.marks.now c.args.offsets.now _ _ _ _ _ _ _ _ c.requires.lent c.fill.ensures c.fill-2.ensures c.fill-3.ensures (c.lower_marked-a.ensures.promise, c.lower_marked-a.ensures.marks_after) _ c.count-made.ensures (not-true _ c.if-not-made.true) _ _ c.number-refusal.ensures c.node-place.ensures c.args.out.now _ _ c.write_refused.ensures
+pub returns-then-not-counted : goal.returns-then-not-counted
+unfolding cleared
+returns-then-not-counted c =
+    let t = c.args.table in
+    table-refused (source t.nodes.now t.addrs.now t.word) _ _ _ _ refl refl refl refl _ _ _ _ _ (c.lower_marked-a.ensures.promise, c.lower_marked-a.ensures.marks_after) _ c.count-counted.ensures
+    (not-true _ c.if-not-counted.true) _ _ c.number-refusal.ensures c.node-place.ensures c.args.out.now _ _ c.write_refused.ensures
+
+pub overflow_mul-asked : goal.overflow_mul-asked
+unfolding cleared
+overflow_mul-asked c =
+    let t = c.args.table in
+    let l = c.lower_marked-a in
+    let u =
+    used-fits (source t.nodes.now t.addrs.now t.word) _ _ _ _ refl refl refl refl _ _ _ _ _ (l.ensures.promise, l.ensures.marks_after) _
+    c.count-counted.ensures (not-false _ c.if-not-counted.false) l.auto.gates l.auto.constraints l.auto.map l.auto.marks in
+    omega (arith, u.1)
+
+pub part-requires : goal.part-requires
+unfolding cleared
+part-requires c =
+    let t = c.args.table in
+    let l = c.lower_marked-a in
+    let u =
+    used-fits (source t.nodes.now t.addrs.now t.word) _ _ _ _ refl refl refl refl _ _ _ _ _ (l.ensures.promise, l.ensures.marks_after) _
+    c.count-counted.ensures (not-false _ c.if-not-counted.false) l.auto.gates l.auto.constraints l.auto.map l.auto.marks in
+    omega (arith, u.0, u.3)
+
+pub slice_bounds-constraints-end : goal.slice_bounds-constraints-end
+unfolding cleared
+slice_bounds-constraints-end c =
+    let t = c.args.table in
+    let l = c.lower_marked-a in
+    let u =
+    used-fits (source t.nodes.now t.addrs.now t.word) _ _ _ _ refl refl refl refl _ _ _ _ _ (l.ensures.promise, l.ensures.marks_after) _
+    c.count-counted.ensures (not-false _ c.if-not-counted.false) l.auto.gates l.auto.constraints l.auto.map l.auto.marks in
+    u.2
+
+pub slice_bounds-made-end : goal.slice_bounds-made-end
+unfolding cleared
+slice_bounds-made-end c =
+    let t = c.args.table in
+    let l = c.lower_marked-a in
+    let u =
+    used-fits (source t.nodes.now t.addrs.now t.word) _ _ _ _ refl refl refl refl _ _ _ _ _ (l.ensures.promise, l.ensures.marks_after) _
+    c.count-counted.ensures (not-false _ c.if-not-counted.false) l.auto.gates l.auto.constraints l.auto.map l.auto.marks in
+    sym (length-take-le _ _ u.2)
 
 pub print_done-requires : goal.print_done-requires
-print_done-requires c = let h = done-asks (source c.args.table.now c.args.addrs.now c.args.word) c.args.gates.now c.args.constraints.now c.args.map.now c.args.marks.now c.args.offsets.now _ _ _ _ _ _ _ _ c.requires.lent c.fill.ensures c.fill-2.ensures c.fill-3.ensures (c.lower_marked-a.ensures.promise, c.lower_marked-a.ensures.marks_after) _ c.count-made.ensures (not-false _ c.if-not-made.false) c.lower_marked-a.auto.gates c.lower_marked-a.auto.constraints c.lower_marked-a.auto.map c.lower_marked-a.auto.marks in record { accepted = h.0; room = h.1; lent = h.2; in_bounds = c.requires.in_bounds }
+unfolding cleared
+print_done-requires c =
+    let t = c.args.table in
+    let l = c.lower_marked-a in
+    let d =
+    done-asks (source t.nodes.now t.addrs.now t.word) _ _ _ _ refl refl refl refl _ _ _ _ _ (l.ensures.promise, l.ensures.marks_after) _
+    c.count-counted.ensures (not-false _ c.if-not-counted.false) l.auto.gates l.auto.constraints l.auto.map l.auto.marks (used c.count-counted.result.gates) _ c.part.ensures in
+    record { done = d; in_bounds = c.requires }
 
 pub returns : goal.returns
-returns c = table_done (source c.args.table.now c.args.addrs.now c.args.word) c.args.gates.now c.args.constraints.now c.args.map.now c.args.marks.now c.args.offsets.now _ _ _ _ _ _ _ _ c.requires.lent c.fill.ensures c.fill-2.ensures c.fill-3.ensures (c.lower_marked-a.ensures.promise, c.lower_marked-a.ensures.marks_after) _ c.count-made.ensures (not-false _ c.if-not-made.false) c.args.out.now _ _ c.print_done.ensures
+unfolding cleared
+returns c =
+    let t = c.args.table in
+    let l = c.lower_marked-a in
+    table_done (source t.nodes.now t.addrs.now t.word) _ _ _ _ refl refl refl refl _ _ _ _ _ (l.ensures.promise, l.ensures.marks_after) _
+    c.count-counted.ensures (not-false _ c.if-not-counted.false) _ c.part.ensures c.args.out.now _ _ c.print_done.ensures

@@ -1,6 +1,19 @@
-use Rattle.text.proofs.Fields.{number_is}
-use borrow.Author.Rules.{rules}
+use mathlib.Core.Path.{ap, ◌∙◌}
+use Rattle.text.specs.Number.{number}
+use Rattle.text.specs.Field.{number_field}
+use Rattle.text.proofs.Fields.{counted, valued-none, valued-stops, valued-some}
 use Rattle.text.proofs.field.number_field.Goals as goal
 
+pub returns-in_err-field : goal.returns-in_err-field
+unfolding number_field
+returns-in_err-field c = ap counted c.from_residual.ensures ∙ valued-none c.inner.result _ c.inner.ensures number c.in_err-field.was
+
+pub returns-in_err-value : goal.returns-in_err-value
+unfolding number_field
+returns-in_err-value c =
+    ap counted c.from_residual-in_err-value.ensures
+    ∙ valued-stops c.inner.result _ c.inner.ensures c.in_ok-field.field c.in_ok-field.rest c.in_ok-field.was number c.number.result c.number.ensures c.in_err-value.was
+
 pub returns : goal.returns
-returns c = (search (rules, number_is), search rules)
+unfolding number_field
+returns c = valued-some c.inner.result _ c.inner.ensures c.in_ok-field.field c.in_ok-field.rest c.in_ok-field.was number c.number.result c.in_ok-value.value c.number.ensures c.in_ok-value.was

@@ -1,23 +1,18 @@
 use mathlib.Core.Path.{refl, ◌∙◌}
-use borrow.Author.Tests.{not-true, not-false}
-use Rattle.text.proofs.Fills.{fill-full}
-use Rattle.text.proofs.Readings.{addr-bad, addr_more, addrs-none}
-use Rattle.text.proofs.Elements.{below_all}
-use borrow.Author.Rules.{rules}
 use native.Mathlib.Omega.{arith}
+use Rattle.text.specs.Name.{addr_name}
+use Rattle.text.proofs.Fields.{count-none, count-some}
+use Rattle.text.proofs.Readings.{addr-bad, addr_more, addrs_full}
 use Rattle.text.proofs.read.read_addrs.Goals as goal
 
-pub loop-p-init : goal.loop-p-init
-loop-p-init c = (omega arith, refl, refl)
+pub returns-in_default : goal.returns-in_default
+unfolding addr_name
+returns-in_default c = addr-bad c.loop-n.rest.now c.loop-n.n c.loop-n.addrs (count-none c.pair_line.result _ c.pair_line.ensures c.in_default.is) ∙ c.loop-n.invariant
 
-pub returns-then-addrs-n : goal.returns-then-addrs-n
-returns-then-addrs-n c = (fill-full _ _ _ _ _ _ (omega arith) ∙ c.loop-p.invariant.2, c.loop-p.invariant.0)
-
-pub returns-then-not-line : goal.returns-then-not-line
-returns-then-not-line c = (addr-bad _ (below_all 256 c.args.text.now (λ j. (c.type_inv.text j).fits)) _ _ (omega arith) _ _ c.pair_line-line.ensures.0 (not-true _ c.if-not-line.true) ∙ c.loop-p.invariant.2, c.loop-p.invariant.0)
-
-pub loop-p-preserved : goal.loop-p-preserved
-loop-p-preserved c = (search rules, search rules, addr_more _ (below_all 256 c.args.text.now (λ j. (c.type_inv.text j).fits)) _ _ (omega arith) _ _ c.pair_line-line.ensures.0 (not-false _ c.if-not-line.false) (omega arith) ∙ c.loop-p.invariant.2)
+pub loop-n-preserved : goal.loop-n-preserved
+unfolding addr_name
+loop-n-preserved c =
+    addr_more c.loop-n.rest.now c.loop-n.n c.loop-n.addrs _ _ (count-some c.pair_line.result _ _ _ c.pair_line.ensures c.in-Some.is) (omega arith) ∙ c.loop-n.invariant
 
 pub returns : goal.returns
-returns c = (addrs-none c.args.text.now c.loop-p.addrs c.loop-p.p c.loop-p.n (omega arith) ∙ c.loop-p.invariant.2, c.loop-p.invariant.0)
+returns c = addrs_full c.loop-n.addrs c.loop-n.n _ _ refl (omega arith) ∙ c.loop-n.invariant

@@ -1,23 +1,15 @@
 use mathlib.Core.Path.{refl, ◌∙◌}
-use borrow.Author.Tests.{not-true, not-false}
-use Rattle.text.proofs.Fills.{fill-full}
-use Rattle.text.proofs.Readings.{node-bad, node-more, nodes-none}
-use Rattle.text.proofs.Elements.{below_all}
-use borrow.Author.Rules.{rules}
 use native.Mathlib.Omega.{arith}
+use Rattle.text.proofs.Fields.{record-none, record-some}
+use Rattle.text.proofs.Readings.{node-bad, node-more, nodes_full}
 use Rattle.text.proofs.read.read_nodes.Goals as goal
 
-pub loop-p-init : goal.loop-p-init
-loop-p-init c = (omega arith, refl, refl)
+pub returns-in_default : goal.returns-in_default
+returns-in_default c = node-bad c.loop-n.rest.now c.loop-n.n c.loop-n.nodes (record-none c.node_line.result _ c.node_line.ensures c.in_default.is) ∙ c.loop-n.invariant
 
-pub returns-then-nodes-n : goal.returns-then-nodes-n
-returns-then-nodes-n c = (fill-full _ _ _ _ _ _ (omega arith) ∙ c.loop-p.invariant.2, c.loop-p.invariant.0)
-
-pub returns-then-not-line : goal.returns-then-not-line
-returns-then-not-line c = (node-bad _ (below_all 256 c.args.text.now (λ j. (c.type_inv.text j).fits)) _ _ (omega arith) _ _ c.node_line-line.ensures.0 (not-true _ c.if-not-line.true) ∙ c.loop-p.invariant.2, c.loop-p.invariant.0)
-
-pub loop-p-preserved : goal.loop-p-preserved
-loop-p-preserved c = (search rules, search rules, node-more _ (below_all 256 c.args.text.now (λ j. (c.type_inv.text j).fits)) _ _ (omega arith) _ _ c.node_line-line.ensures.0 (not-false _ c.if-not-line.false) (omega arith) _ c.store.ensures ∙ c.loop-p.invariant.2)
+pub loop-n-preserved : goal.loop-n-preserved
+loop-n-preserved c =
+    node-more c.loop-n.rest.now c.loop-n.n c.loop-n.nodes _ _ _ c.store.ensures (record-some c.node_line.result _ _ _ c.node_line.ensures c.in-Some.is) refl (omega arith) ∙ c.loop-n.invariant
 
 pub returns : goal.returns
-returns c = (nodes-none c.args.text.now c.loop-p.nodes c.loop-p.p c.loop-p.n (omega arith) ∙ c.loop-p.invariant.2, c.loop-p.invariant.0)
+returns c = nodes_full c.loop-n.nodes c.loop-n.n _ _ (omega arith) (omega arith) ∙ c.loop-n.invariant

@@ -1,14 +1,22 @@
-use borrow.Author.Tests.{not-true, not-false}
-use native.Mathlib.Omega.{arith}
-use Rattle.text.proofs.Elements.{below_all}
+use Rattle.std.proofs.Common.{rules, tests}
+use mathlib.Core.Path.{ap, ◌∙◌}
+use Rattle.text.specs.Read.Stored.{stored}
+use Rattle.text.specs.Name.{word_name}
+use Rattle.text.proofs.Fields.{count-none, count-some}
 use Rattle.text.proofs.Texts.{read-no-word, read_left, read_all}
 use Rattle.text.proofs.read.read_text.Goals as goal
 
-pub returns-then-not-word : goal.returns-then-not-word
-returns-then-not-word c = read-no-word _ _ _ (below_all 256 c.args.text.now (λ j. (c.type_inv.text j).fits)) _ c.pair_line-word.ensures.0 (not-true _ c.if-not-word.true)
+pub returns-in_err-word : goal.returns-in_err-word
+unfolding word_name
+returns-in_err-word c =
+    ap (λ r. stored r c.args.addrs.now c.args.nodes.now) c.from_residual.ensures ∙ read-no-word _ _ _ (count-none c.pair_line.result _ c.pair_line.ensures c.in_err-word.was)
 
-pub returns-then-n-text : goal.returns-then-n-text
-returns-then-n-text c = read_left _ _ _ (below_all 256 c.args.text.now (λ j. (c.type_inv.text j).fits)) _ c.pair_line-word.ensures.0 (not-false _ c.if-not-word.false) _ _ c.read_addrs-a.result.next _ _ c.read_nodes-n.result.next c.read_addrs-a.ensures.0 c.read_nodes-n.ensures.0 (omega arith)
+pub returns-then-not-is_empty : goal.returns-then-not-is_empty
+unfolding word_name
+returns-then-not-is_empty c =
+    read_left _ _ _ _ _ (count-some c.pair_line.result _ _ _ c.pair_line.ensures c.in_ok-word.was) _ _ _ _ _ _ c.read_addrs-listed.ensures c.read_nodes-count.ensures (search (rules, tests))
 
 pub returns : goal.returns
-returns c = read_all _ _ _ (below_all 256 c.args.text.now (λ j. (c.type_inv.text j).fits)) _ c.pair_line-word.ensures.0 (not-false _ c.if-not-word.false) _ _ c.read_addrs-a.result.next _ _ c.read_nodes-n.result.next c.read_addrs-a.ensures.0 c.read_nodes-n.ensures.0 (omega arith)
+unfolding word_name
+returns c =
+    read_all _ _ _ _ _ (count-some c.pair_line.result _ _ _ c.pair_line.ensures c.in_ok-word.was) _ _ _ _ _ _ c.read_addrs-listed.ensures c.read_nodes-count.ensures (search (rules, tests))

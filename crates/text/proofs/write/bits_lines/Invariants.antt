@@ -2,12 +2,14 @@ use mathlib.Core.Path.{◌≡◌}
 use Prim.Native.Nat.{◌≤◌, ◌-◌}
 use lib.ListN.{length}
 use Rattle.text.specs.Put.{put}
-use Rattle.text.specs.Put.Text.{text}
+use Rattle.text.specs.Writer.{so_far}
 use Rattle.text.specs.Write.{each, next_bits}
 use Rattle.text.proofs.write.bits_lines.Given as goal
 
-abbrev pub invariant-loop-k : goal.invariant-loop-k
-invariant-loop-k l = (l.k ≤ length l.marks - 1) × (length l.out ≡ length l.initial.out) × (text l.out l.p ≡ put (text l.initial.out l.at) (each l.k (next_bits l.map l.offsets l.marks)))
-
-abbrev pub decreases-loop-k : goal.decreases-loop-k
-decreases-loop-k l = length l.marks - 1 - l.k
+abbrev pub invariant-loop-i : goal.invariant-loop-i
+invariant-loop-i l =
+    record {
+      within : l.i - 1 ≤ length l.marks - 1;
+      same : l.lines.out.ghost_name ≡ l.initial.lines.out.ghost_name;
+      after : so_far l.lines ≡ put (so_far l.initial.lines) (each (l.i - 1) (next_bits l.map l.offsets l.marks));
+    }

@@ -5,10 +5,10 @@ use native.Mathlib.Omega.{arith}
 use Rattle.text.proofs.write.constraint_lines.Goals as goal
 
 pub loop-i-init : goal.loop-i-init
-loop-i-init c = (omega arith, refl, search (rules, each_none))
+loop-i-init c = record { same = refl; after = search (rules, each_none) }
 
 pub loop-i-preserved : goal.loop-i-preserved
-loop-i-preserved c = (omega arith, search rules, search (rules, each_more))
+loop-i-preserved c = record { same = search rules; after = search (rules, each_more) }
 
-pub returns : goal.returns
-returns c = search (rules, each-done)
+pub returns-clause-after : goal.returns-clause-after
+returns-clause-after c = each-done _ _ _ c.loop-i.i _ (omega arith) (omega arith) c.loop-i.invariant.after

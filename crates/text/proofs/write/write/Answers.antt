@@ -4,6 +4,7 @@ use Rattle.text.proofs.Rooms.{output-length}
 use Prim.Native.Nat.{◌≤◌}
 use lib.ListN.{length}
 use native.Mathlib.Omega.{arith}
+use borrow.Author.Rules.{rules}
 use Rattle.text.proofs.write.write.Goals as goal
 
 pub returns : goal.returns
@@ -15,4 +16,4 @@ returns c = let a = c.args in
     (omega (arith, c.well_formed)) (omega (arith, c.well_formed)) (omega (arith, c.well_formed)) c.requires.offsets in
     let room : length (output a.gates.now a.map.now a.offsets.now a.marks.now a.constraints.now) ≤ length a.out.now = omega (arith, c.requires.constraints_in_bounds) in
     written a.gates.now a.map.now a.offsets.now a.marks.now a.constraints.now a.out.now
-    _ _ _ _ _ _ _ _ _ room c.count-g.ensures c.gate_lines-p.ensures c.bits_lines-q.ensures c.constraint_lines-s.ensures c.put_pair.ensures
+    _ _ _ _ c.pair.new.self.out.now _ _ (search rules) room c.count-g.ensures c.gate_lines.ensures.after c.bits_lines.ensures.after c.constraint_lines.ensures.after c.pair.ensures.after

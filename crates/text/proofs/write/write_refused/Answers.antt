@@ -8,4 +8,4 @@ use Rattle.text.proofs.write.write_refused.Goals as goal
 pub returns : goal.returns
 unfolding refused_line refused_name
 returns c = let fits = refused-length c.args.number c.args.node (search rules) (search rules) in
-    room-put c.args.out.now (refused_line c.args.number c.args.node) _ _ (omega (arith, c.requires)) c.put_pair.ensures
+    room-put c.args.out.now (refused_line c.args.number c.args.node) _ c.pair.new.self.out.now _ (search rules) (omega (arith, c.requires)) c.pair.ensures.after
