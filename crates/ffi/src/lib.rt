@@ -13,6 +13,7 @@ ghost use Rattle.netlist.specs.Check as check;
 ghost use Rattle.netlist.specs.Eval as list;
 ghost use Rattle.ffi.specs.Count.{gates_made, constraints_held, lower_answer, room_for};
 
+use lowering::lower::Done;
 use netlist::sheet;
 use table::{Fault, Sums};
 
@@ -81,12 +82,15 @@ pub extern "C" fn ramstitcher_lower(
     ensures made_after { made.new ≡ gates_made (lower_answer table.now addrs.now word gates.old constraints.old map.old) }
     ensures held_after { held.new ≡ constraints_held (lower_answer table.now addrs.now word gates.old constraints.old map.old) }
 {
-    let a = lowering::lower::lower(table, addrs, word, gates, constraints, map);
-    *node = lowering::lower::node(a);
-    let counts = lowering::lower::count(a);
-    *made = counts.gates;
-    *held = counts.constraints;
-    lowering::lower::number(a)
+    let answer = lowering::lower::lower(table, addrs, word, gates, constraints, map);
+    let done = answer.unwrap_or(Done {
+        gates: 0,
+        constraints: 0,
+    });
+    *made = done.gates;
+    *held = done.constraints;
+    *node = sheet::place(answer);
+    sheet::number(answer)
 }
 
 // The word evaluator.

@@ -17,7 +17,6 @@ use Rattle.visits.specs.Flow.{Core, Low, root_step, lower_to}
 use Rattle.visits.specs.Claims.{Is, Lowered, Small}
 use Rattle.visits.proofs.Later.{Sound, sound-later, visit-later}
 use Rattle.visits.proofs.Roots.{start-sound}
-use Rattle.lowering.specs.declared.lower.Done.{Done}
 use Rattle.lowering.specs.declared.lower.Refusal.TheVariants.{Table}
 use Rattle.nodes.specs.Source.{Source, total_of, gates_of}
 use Rattle.nodes.specs.Own.{own_step}
@@ -29,7 +28,6 @@ use Rattle.nodes.proofs.ShapeLaws.{shape}
 use Rattle.lowering.proofs.StartLaws.{starts}
 use Rattle.lowering.proofs.SmallLaws as demand3
 use Rattle.lowering.proofs.RightLower as demand2
-use Rattle.nodes.proofs.WordFacts.{clash}
 use Rattle.lowering.proofs.VisitFacts.{own-steps}
 
 -- a lowering that was done: the table was accepted, and this is what the buffers hold

@@ -1,5 +1,5 @@
 -- The lowering: refusals 1 to 6, then 14, then 7, 8, 9; on success gates, constraints and bit map.
-use Rattle.std.specs.Prelude.{◌≡◌, List, ◌++◌, Bool, true, false, ℕ, ◌+◌, ◌/◌, ◌≤◌, ltb, length, drop, replicate, Result, Ok, Err}
+use Rattle.std.specs.Prelude.{◌≡◌, List, ◌++◌, true, ℕ, ◌+◌, ◌/◌, ◌≤◌, ltb, length, drop, replicate, Result, Ok, Err}
 use Rattle.loops.specs.Loop.{pick}
 use Rattle.table.specs.Node.{nodes}
 use Rattle.table.specs.declared.Sums.{Sums}

@@ -126,15 +126,7 @@ fn lower_clear(
     if pairs < sums.constraints {
         return Err(Refusal::ConstraintRoom);
     }
-    Ok(lower_room(
-        table,
-        addrs,
-        word,
-        gates,
-        constraints,
-        map,
-        marks,
-    ))
+    Ok(lower_room(table, addrs, word, gates, constraints, map, marks))
 }
 
 // The lowering, which also marks the nodes that it reached: 1 at a node's number. The program asks for it.

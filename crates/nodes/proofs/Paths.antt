@@ -1,7 +1,6 @@
 -- What the code's calls come to, path by path, over the definitions alone: a proof of the code cites each by its bare name in `search`.
 use mathlib.Core.Path.{◌≡◌, refl, ap, sym, ◌∙◌}
 use mathlib.Core.List.{List}
-use mathlib.Core.Bool.{Bool}
 use Prim.Native.Nat.{ℕ, ◌+◌, ◌*◌, ◌-◌, ◌≤◌}
 use native.Mathlib.Omega.{arith}
 use lib.ListN.{length, get_or, set, take, drop}
@@ -14,19 +13,17 @@ use Rattle.table.specs.Op.{op_kind, by_op}
 use Rattle.digits.specs.Op.{Op}
 use Rattle.netlist.specs.Net.{Net}
 use Rattle.gates.specs.declared.list.GateList.{GateList}
-use Rattle.gates.specs.Made.{MadeBit, net_of, made_of, added, gate_input_bit}
+use Rattle.gates.specs.Made.{MadeBit, made_of, added}
 use Rattle.words.specs.declared.each.Bitwise.TheVariants as op
-use Rattle.words.specs.Num.{filled, blank}
-use Rattle.words.specs.Each.{Word, word_of, each_bit, put_bits}
+use Rattle.words.specs.Num.{blank}
+use Rattle.words.specs.Each.{Word, word_of}
 use Rattle.digits.specs.Digits.{put_digits}
 use Rattle.words.specs.Add.{Chain, chain_of}
 use Rattle.words.specs.Op.{op_into}
 use Rattle.words.proofs.NumLaws.{blank-long}
 use Rattle.words.proofs.EachLaws.{choose-cost, each-ext}
-use Rattle.division.specs.Rows.{Checked, checked_of}
-use Rattle.division.specs.Divide.{divide_words}
 use Rattle.nodes.specs.Own.{fresh, as_is, of_chain, input_step, plain_word}
-use Rattle.nodes.specs.Place.{placed, inputs, choices, share_at, in_front, plain_at, divide_at}
+use Rattle.nodes.specs.Place.{placed, inputs, choices, in_front}
 use Rattle.nodes.proofs.OpKinds.{plain-is}
 use Rattle.nodes.proofs.Places.{part-within}
 

@@ -20,14 +20,7 @@ use words::shift::Direction;
 use words::{add, each, eq, mul, shift, sub};
 
 // The word of a node over its operands' words, which are v wide.
-fn plain_word(
-    list: &mut GateList,
-    node: Node,
-    v: usize,
-    a: &[u32],
-    b: &[u32],
-    out: &mut [u32],
-)
+fn plain_word(list: &mut GateList, node: Node, v: usize, a: &[u32], b: &[u32], out: &mut [u32])
     requires fits { Fits list.old (ceiling 0 0 node v) }
     requires kind { (node.kind ≡ kinds.CONST → ⊥) × (kinds.compares node.kind ≡ false → node.width ≡ v) }
     requires le_v { (1 ≤ v) × (v ≤ 64) × (v ≤ length a.now) × (v ≤ length b.now) × (out.old ≡ blank) }

@@ -16,24 +16,23 @@ use Rattle.table.proofs.size.Laws.{stored, sum_mono, offset-end}
 use Rattle.netlist.specs.Record.{used, Room}
 use Rattle.text.specs.Plain.{Plain, plain_text}
 use Rattle.text.specs.Plain.Plain.{plain}
-use Rattle.std.specs.Prelude.{Option, Some, None}
+use Rattle.std.specs.Prelude.{Option, Some, None, Ok, Err}
 use Rattle.text.specs.declared.read.Table as reads
 use Rattle.text.specs.Read.{addr_size, node_size, answer_of, read_text, addr_list, node_table, word_width}
 use Rattle.text.specs.Read.Stored.{stored as kept}
 use Rattle.text.specs.Write.{Offsets, constraint_size, gate_count, node_count, constraint_count, output_room, refused_room, refused_line, output, Written}
 use Rattle.text.proofs.Answers.{TableRead, table-read, refused-read, table, plain_of}
 use Rattle.text.proofs.Sizes.{room}
-use Rattle.lowering.specs.declared.lower.Answer.{Answer}
-use Rattle.lowering.specs.declared.lower.Answer.TheVariants.{Done, Table, NothingAsked, GateRoom, BitRoom, ConstraintRoom}
+use Rattle.lowering.specs.declared.lower.Done.{Done}
+use Rattle.lowering.specs.declared.lower.Refusal.{Refusal}
 use Rattle.nodes.specs.Source.{Source, source, listed, total_of}
-use Rattle.lowering.specs.Lower.{Run, run, number, node, counts_of, lowered, lower_all, marked}
+use Rattle.lowering.specs.Lower.{Answer, counted, Run, run, number_of, place_of, lowered, lower_all, marked}
 use Rattle.lowering.specs.Promise.{Promise}
 use Rattle.lowering.proofs.LowerFacts.{map-sum}
 use Rattle.lowering.proofs.Answers.{Made, made}
 use Rattle.stitch.specs.Printed.{GATES, PLACES, CONSTRAINTS, ADDRS, NODES, cleared, gate_buffer, constraint_buffer, bit_map, offset_list, done_lines, refusal, answer_lines, run_lines, table_lines, plain_lines, printed, ROOM}
 use Rattle.stitch.specs.Lent as lent
 use Rattle.stitch.specs.Lent.{TextRoom}
-use Rattle.lowering.specs.declared.lower.Counts.{Counts}
 
 -- a refusal's line fits
 pub refused-fits : (l : ℕ) → ROOM ≤ l → refused_room ≤ l
@@ -150,46 +149,29 @@ lines_clear : (S : Source) (g c m : List ℕ) → g ≡ gate_buffer → c ≡ co
 unfolding table_lines
 lines_clear S g c m eg ec em = rw (eg, ec, em)
 
-refused-lines : (S : Source) (g c m z : List ℕ) (a : Answer) → (counts_of a).done ≡ false → answer_lines S g c m z a ≡ refused_line (number a) (node a)
+refused-lines : (S : Source) (g c m z : List ℕ) (a : Answer) (f : Refusal) → a ≡ Err f → answer_lines S g c m z a ≡ refused_line (number_of f) (place_of f)
 unfolding answer_lines refusal
-refused-lines S g c m z (Done n k) h = absurd (let i : ◌≡◌ {A = ℕ} 0 1 = cc in omega arith)
-refused-lines S g c m z (Table f) h = refl
-refused-lines S g c m z NothingAsked h = refl
-refused-lines S g c m z GateRoom h = refl
-refused-lines S g c m z BitRoom h = refl
-refused-lines S g c m z ConstraintRoom h = refl
+refused-lines S g c m z a f e = ap (answer_lines S g c m z) e
 
-is-done : (a : Answer) → (counts_of a).done ≡ true → a ≡ Done (counts_of a).gates (counts_of a).constraints
-is-done (Done n k) h = refl
-is-done (Table f) h = absurd (let i : ◌≡◌ {A = ℕ} 0 1 = cc in omega arith)
-is-done NothingAsked h = absurd (let i : ◌≡◌ {A = ℕ} 0 1 = cc in omega arith)
-is-done GateRoom h = absurd (let i : ◌≡◌ {A = ℕ} 0 1 = cc in omega arith)
-is-done BitRoom h = absurd (let i : ◌≡◌ {A = ℕ} 0 1 = cc in omega arith)
-is-done ConstraintRoom h = absurd (let i : ◌≡◌ {A = ℕ} 0 1 = cc in omega arith)
-
-done-lines : (S : Source) (g c m z : List ℕ) (a : Answer) (n k : ℕ) → a ≡ Done n k → done_lines S n k g c m z ≡ answer_lines S g c m z a
+done-lines : (S : Source) (g c m z : List ℕ) (a : Answer) (n k : ℕ) → a ≡ Ok (counted n k) → done_lines S n k g c m z ≡ answer_lines S g c m z a
 unfolding answer_lines
 done-lines S g c m z a n k e = sym (ap (answer_lines S g c m z) e)
 
 -- the front of the marks
-front-marks : (S : Source) (g c z z' : List ℕ) (n k : ℕ) → length (lowered S g c).seen ≡ nodes S.table + 1 → z' ≡ marked S g c z (Done n k) → take (nodes S.table + 1) z' ≡ (lowered S g c).seen
+front-marks : (S : Source) (g c z z' : List ℕ) (n k : ℕ) → length (lowered S g c).seen ≡ nodes S.table + 1 → z' ≡ marked S g c z (Ok (counted n k)) → take (nodes S.table + 1) z' ≡ (lowered S g c).seen
 unfolding marked
 front-marks S g c z z' n k long e = ap (take (nodes S.table + 1)) e ∙ take_at (lowered S g c).seen (drop (nodes S.table + 1) z) (nodes S.table + 1) long
 
 -- from the cleared buffers (g1, c1, m1) and the marks z0 to what the lowering left (g, c, m, z)
 module _ (S : Source) (g1 c1 m1 z0 : List ℕ) (eg : g1 ≡ gate_buffer) (ec : c1 ≡ constraint_buffer) (em : m1 ≡ bit_map) (ez : length z0 ≡ NODES + 1) (a : Answer) (g c m z : List ℕ)
-    (p : Promise S g1 c1 m1 a g c m × (z ≡ marked S g1 c1 z0 a)) (b : Counts) (eb : b ≡ counts_of a) where
+    (p : Promise S g1 c1 m1 a g c m × (z ≡ marked S g1 c1 z0 a)) where
   lines : answer_lines S g c m (lowered S g1 c1).seen a ≡ table_lines S
   lines = run-lines S g1 c1 m1 a g c m p.0.answer ∙ lines_clear S g1 c1 m1 eg ec em
 
-  pub table-refused : b.done ≡ false → (u v : ℕ) → u ≡ number a → v ≡ node a → (out after : List ℕ) (r : ℕ) → Written out (refused_line u v) after r → Written out (table_lines S) after r
-  table-refused h u v eu ev out after r w =
-      as-printed out after r _ _ (sym (refused-lines S g c m (lowered S g1 c1).seen a (sym (ap (λ (x : Counts). x.done) eb) ∙ h)) ∙ lines) (rw (eu, ev) at w)
+  pub table-refused : (f : Refusal) → a ≡ Err f → (u v : ℕ) → u ≡ number_of f → v ≡ place_of f → (out after : List ℕ) (r : ℕ) → Written out (refused_line u v) after r → Written out (table_lines S) after r
+  table-refused f h u v eu ev out after r w = as-printed out after r _ _ (sym (refused-lines S g c m (lowered S g1 c1).seen a f h) ∙ lines) (rw (eu, ev) at w)
 
-  module _ (h : b.done ≡ true) where
-    is : a ≡ Done b.gates b.constraints
-    is = rw eb (is-done a (sym (ap (λ (x : Counts). x.done) eb) ∙ h))
-
+  module _ (b : Done) (is : a ≡ Ok b) where
     of : Made S g1 c1 m1 b.gates b.constraints
     of = made S g1 c1 m1 b.gates b.constraints a g c m p.0.answer is
 

@@ -1,5 +1,5 @@
 -- What the program prints, as document 01's "The program" has it: bytes in, bytes out.
-use Rattle.std.specs.Prelude.{List, true, false, ℕ, ◌+◌, ◌*◌, take, replicate}
+use Rattle.std.specs.Prelude.{List, true, false, ℕ, ◌+◌, ◌*◌, take, replicate, Ok, Err}
 use Rattle.table.specs.declared.Unit.TheVariants.{Bit}
 use Rattle.table.specs.Node.{nodes}
 use Rattle.table.specs.Size.{offsets_into}
@@ -8,10 +8,8 @@ use Rattle.text.specs.Plain.{Plain, plain_text}
 use Rattle.text.specs.Plain.Plain.{plain}
 use Rattle.text.specs.Read.{flat}
 use Rattle.text.specs.Write.{constraint_size, output, refused_line}
-use Rattle.lowering.specs.declared.lower.Answer.{Answer}
-use Rattle.lowering.specs.declared.lower.Answer.TheVariants.{Done, Table, NothingAsked, GateRoom, BitRoom, ConstraintRoom}
 use Rattle.nodes.specs.Source.{Source, source, listed, total_of}
-use Rattle.lowering.specs.Lower.{number, node, Run, lowered, lower_all}
+use Rattle.lowering.specs.Lower.{Answer, number, node, Run, lowered, lower_all}
 
 -- "up to 4,096 gates, 16,384 map places, 8,192 constraints"; a table has at most 64 addresses and 512 nodes
 abbrev pub GATES : ℕ
@@ -60,12 +58,8 @@ unfoldable pub refusal : Answer → List ℕ
 refusal a = refused_line (number a) (node a)
 
 unfoldable pub answer_lines : Source → List ℕ → List ℕ → List ℕ → List ℕ → Answer → List ℕ
-answer_lines S g c m z (Done n k) = done_lines S n k g c m z
-answer_lines S g c m z (Table f) = refusal (Table f)
-answer_lines S g c m z NothingAsked = refusal NothingAsked
-answer_lines S g c m z GateRoom = refusal GateRoom
-answer_lines S g c m z BitRoom = refusal BitRoom
-answer_lines S g c m z ConstraintRoom = refusal ConstraintRoom
+answer_lines S g c m z (Ok d) = done_lines S d.gates d.constraints g c m z
+answer_lines S g c m z (Err f) = refusal (Err f)
 
 -- what the lowering of a table answered and left in its buffers
 unfoldable pub run_lines : Source → List ℕ → Run → List ℕ

@@ -5,8 +5,9 @@ ghost use Rattle.stitch.specs.Printed.{done_output, table_lines, ROOM};
 ghost use Rattle.stitch.specs.Lent.{Done};
 ghost use Rattle.stitch.specs.Read.{source_of};
 
-use lowering::lower::{count, lower_marked, node, number};
+use lowering::lower::lower_marked;
 use netlist::record;
+use netlist::sheet::OnSheet;
 use table::Unit;
 use text::write::{write, write_refused};
 
@@ -58,7 +59,7 @@ pub fn print_table(table: Source, out: &mut [u8]) -> usize
     let mut constraints = [0u32; 16384]; // 8,192 of two
     let mut map = [0u32; 16384];
     let mut marks = [0u8; 513]; // at the nodes' numbers, from 0
-    let a = lower_marked(
+    let answer = lower_marked(
         table.nodes,
         table.addrs,
         table.word,
@@ -67,19 +68,20 @@ pub fn print_table(table: Source, out: &mut [u8]) -> usize
         &mut map,
         &mut marks,
     );
-    let counted = count(a);
-    if !counted.done {
-        let refusal = number(a);
-        let place = node(a) as u64;
-        return write_refused(refusal, place, out);
+    match answer {
+        Err(refusal) => {
+            let place = refusal.place() as u64;
+            write_refused(refusal.number(), place, out)
+        }
+        Ok(done) => {
+            let asked = 2 * done.constraints;
+            let made = Lowered {
+                gates: record::part(&gates, done.gates),
+                constraints: &constraints[..asked],
+                map: &map,
+                marks: &marks,
+            };
+            print_done(table, made, out)
+        }
     }
-    let n = counted.gates;
-    let asked = 2 * counted.constraints;
-    let made = Lowered {
-        gates: record::part(&gates, n),
-        constraints: &constraints[..asked],
-        map: &map,
-        marks: &marks,
-    };
-    print_done(table, made, out)
 }

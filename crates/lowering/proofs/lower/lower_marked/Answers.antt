@@ -1,5 +1,4 @@
 use borrow.Author.Rules.{rules}
-use native.Mathlib.Omega.{arith}
 use Rattle.nodes.specs.Source.{source}
 use Rattle.lowering.proofs.PromiseLaws.{promise}
 use Rattle.lowering.proofs.LowerFacts.{faulty, unasked, clear-asked, clear-all, faulty-marks, unasked-marks}

@@ -1,5 +1,4 @@
 use mathlib.Core.Path.{sym, ◌∙◌}
-use native.Mathlib.Omega.{arith}
 use borrow.Author.Rules.{rules}
 use Rattle.nodes.specs.Laid.{source_of}
 use Rattle.nodes.proofs.OwnFacts.{share-asks, input-made, share-made, ite-made, read_made, write-made, word_made, plainly}
@@ -13,11 +12,10 @@ share_node-requires c =
     record { stands = c.requires.0.stands; le_x = (h.some, h.less, h.words) }
 
 pub word_node-requires : goal.word_node-requires
-word_node-requires c =
-    (
-      c.requires.0,
-      plainly c.args.self.now.node (sym c.is_given.ensures ∙ c.if-is_given.false) (sym c.shares.ensures ∙ c.if-shares.false) (search rules) c.requires.1 (search rules) (search rules),
-    )
+word_node-requires c = (
+  c.requires.0,
+  plainly c.args.self.now.node (sym c.is_given.ensures ∙ c.if-is_given.false) (sym c.shares.ensures ∙ c.if-shares.false) (search rules) c.requires.1 (search rules) (search rules),
+)
 
 pub returns-then-is_given-clause-made : goal.returns-then-is_given-clause-made
 returns-then-is_given-clause-made c =
