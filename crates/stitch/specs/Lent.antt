@@ -1,7 +1,6 @@
 -- What inner functions are lent.
-use Rattle.std.specs.Prelude.{◌≡◌, List, ℕ, ◌+◌, ◌*◌, ◌≤◌, length}
+use Rattle.std.specs.Prelude.{◌≡◌, List, ℕ, ◌+◌, ◌*◌, ◌≤◌, length, Ok}
 use Rattle.table.specs.Sheet.{table_fault}
-use Rattle.table.specs.declared.Fault.TheVariants.{Clear}
 use Rattle.netlist.specs.Record.{used}
 use Rattle.nodes.specs.Source.{Source, total_of}
 use Rattle.text.specs.Read.{addr_size, node_size}
@@ -15,7 +14,7 @@ pub record TextRoom (a b : List ℕ) : Type 0 where
 
 -- a table that was lowered: the gates and constraints of it, the whole map and the marks, which stand at the nodes' numbers, with 0
 pub record Done (S : Source) (g c m z : List ℕ) : Type 0 where
-  pub clear : table_fault S.table S.addrs S.word ≡ Clear
+  pub clear : table_fault S.table S.addrs S.word ≡ Ok tt
   pub gates : length g ≤ used GATES
   pub constraints : length c ≤ constraint_size * CONSTRAINTS
   pub map : length m ≡ PLACES

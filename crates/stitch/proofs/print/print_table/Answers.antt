@@ -14,7 +14,7 @@ pub returns-in-Err : goal.returns-in-Err
 unfolding cleared
 returns-in-Err c =
     let t = c.args.table in
-    table-refused (source t.nodes.now t.addrs.now t.word) _ _ _ _ refl refl refl refl _ _ _ _ _ (c.lower_marked-answer.ensures.promise, c.lower_marked-answer.ensures.marks_after) _ c.in-Err.is _ _ c.number.ensures c.place.ensures c.args.out.now _ _ c.write_refused.ensures
+    table-refused (source t.nodes.now t.addrs.now t.word) _ _ _ _ refl refl refl refl _ _ _ _ _ (c.lower_marked-answer.ensures.promise, c.lower_marked-answer.ensures.marks_after) _ c.in-Err.is _ _ c.number.ensures c.place-place.ensures c.args.out.now _ _ c.write_refused.ensures
 
 pub overflow_mul-asked : goal.overflow_mul-asked
 unfolding cleared
@@ -63,7 +63,7 @@ print_done-requires c =
     let l = c.lower_marked-answer in
     let d =
     done-asks (source t.nodes.now t.addrs.now t.word) _ _ _ _ refl refl refl refl _ _ _ _ _ (l.ensures.promise, l.ensures.marks_after) _
-    c.in-Ok.is l.auto.gates l.auto.constraints l.auto.map l.auto.marks (used c.in-Ok.field-0.gates) _ c.part.ensures in
+    c.in-Ok.is l.auto.gates l.auto.constraints l.auto.map l.auto.marks (used c.in-Ok.done.gates) _ c.part.ensures in
     record { done = d; in_bounds = c.requires }
 
 pub returns-in-Ok : goal.returns-in-Ok
