@@ -1,18 +1,13 @@
 -- What the lowering answers, and the counts that cross beside it.
-use Rattle.std.specs.Prelude.{List, ℕ, length, Ok, Err}
+use Rattle.std.specs.Prelude.{List, ℕ, length}
 use Rattle.loops.specs.Loop.{pick}
 use Rattle.table.specs.declared.Sums.{Sums}
 use Rattle.table.specs.Sheet.{table_fault, is_clear}
 use Rattle.table.specs.Ceiling.{sums_of}
-use Rattle.lowering.specs.declared.lower.Done.{Done}
 use Rattle.nodes.specs.Source.{source}
-use Rattle.lowering.specs.Lower.{Answer, counted, lower_all}
+use Rattle.lowering.specs.Lower.{Answer, counts_of, lower_all}
 
 -- gates made and constraints recorded, 0 beside a refusal
-abbrev pub counts_of : Answer → Done
-counts_of (Ok d) = d
-counts_of (Err e) = counted 0 0
-
 abbrev pub gates_made : Answer → ℕ
 gates_made a = (counts_of a).gates
 

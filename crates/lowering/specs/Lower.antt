@@ -22,6 +22,11 @@ Answer = Result Done Refusal
 abbrev pub counted : ℕ → ℕ → Done
 counted n k = record { gates = n; constraints = k }
 
+-- how many gates and constraints an answer has: none beside a refusal
+abbrev pub counts_of : Answer → Done
+counts_of (Ok d) = d
+counts_of (Err e) = counted 0 0
+
 -- a refusal's number on the sheet, and the node beside it
 abbrev pub number_of : Refusal → ℕ
 number_of (Table f) = sheet.number_of f
