@@ -97,6 +97,7 @@ fn eval_clear(
 }
 
 // The values of all nodes: given slots are read, the others worked out.
+#[tactic(auto, unfolding(crate::specs::Eval::eval_words))]
 pub fn eval_words(table: &[u64], addrs: &[u64], w: u64, values: &mut [u64]) -> Result<(), Refusal>
     ensures { run result values.new ≡ eval_words table.now addrs.now w values.old }
 {

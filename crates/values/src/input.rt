@@ -10,6 +10,7 @@ use table::field::{is_given, node_at};
 use table::sheet::fits;
 
 // A slot of a node is below 2 to this.
+#[tactic(auto, unfolding(crate::specs::Eval::slot_width, loops::specs::Loop::pick))]
 fn slot_width(w: u64, node: Node) -> u64
     ensures { result ≡ slot_width w node }
 {
@@ -19,6 +20,7 @@ fn slot_width(w: u64, node: Node) -> u64
     node.width
 }
 
+#[tactic(auto, unfolding(crate::specs::Eval::slot_bad))]
 fn slot_bad(u: u64, values: &[u64], o: usize, j: usize) -> bool
     requires { (o ≤ 65536) × (j ≤ 64) }
     ensures { result ≡ slot_bad u values.now o j }

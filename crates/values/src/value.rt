@@ -5,6 +5,7 @@ use table::Node;
 use table::kind::{ADD, AND, CONST, DIVU, EQ, MUL, NOT, OR, REM, SEXT, SLL, SRL, SUB, ULT};
 
 // x modulo 2^v.
+#[tactic(auto, using(crate::proofs::value::Laws::mask_rules))]
 fn reduce(x: u64, v: u64) -> u64
     ensures { result ≡ x % 2 ^ v }
 {
@@ -15,6 +16,7 @@ fn reduce(x: u64, v: u64) -> u64
 }
 
 // v ones.
+#[tactic(auto, using(crate::proofs::value::Laws::mask_rules))]
 fn mask(v: u64) -> u64
     requires { v ≤ 64 }
     ensures { result ≡ 2 ^ v - 1 }
@@ -37,6 +39,7 @@ fn mul_low(x: u64, y: u64) -> u64
     std::num::wrapping_add_u64(mid << 32, x0 * y0)
 }
 
+#[tactic(auto, using(crate::proofs::value::Laws::word_rules))]
 fn not_word(v: u64, x: u64) -> u64
     requires { v ≤ 64 }
     ensures { result ≡ not_word v x }
@@ -44,6 +47,7 @@ fn not_word(v: u64, x: u64) -> u64
     mask(v) - reduce(x, v)
 }
 
+#[tactic(auto, using(crate::proofs::value::Laws::word_rules))]
 fn add_word(v: u64, x: u64, y: u64) -> u64
     requires { v ≤ 64 }
     ensures { result ≡ add_word v x y }
@@ -51,6 +55,7 @@ fn add_word(v: u64, x: u64, y: u64) -> u64
     reduce(std::num::wrapping_add_u64(x, y), v)
 }
 
+#[tactic(auto, using(crate::proofs::value::Laws::word_rules))]
 fn sub_word(v: u64, x: u64, y: u64) -> u64
     requires { v ≤ 64 }
     ensures { result ≡ sub_word v x y }
@@ -58,6 +63,7 @@ fn sub_word(v: u64, x: u64, y: u64) -> u64
     reduce(std::num::wrapping_sub_u64(x, y), v)
 }
 
+#[tactic(auto, using(crate::proofs::value::Laws::word_rules))]
 fn mul_word(v: u64, x: u64, y: u64) -> u64
     requires { v ≤ 64 }
     ensures { result ≡ mul_word v x y }
@@ -65,6 +71,7 @@ fn mul_word(v: u64, x: u64, y: u64) -> u64
     reduce(mul_low(x, y), v)
 }
 
+#[tactic(auto, unfolding(crate::specs::Value::div_word, loops::specs::Loop::pick))]
 pub fn div_word(v: u64, x: u64, y: u64) -> u64
     requires { v ≤ 64 }
     ensures { result ≡ div_word v x y }
@@ -75,6 +82,7 @@ pub fn div_word(v: u64, x: u64, y: u64) -> u64
     x / y
 }
 
+#[tactic(auto, unfolding(crate::specs::Value::rem_word, loops::specs::Loop::pick))]
 pub fn rem_word(x: u64, y: u64) -> u64
     ensures { result ≡ rem_word x y }
 {
@@ -85,6 +93,7 @@ pub fn rem_word(x: u64, y: u64) -> u64
 }
 
 // An amount of width or more gives zero, in both shifts.
+#[tactic(auto, using(crate::proofs::value::Laws::word_rules), unfolding(crate::specs::Value::sll_word, loops::specs::Loop::pick))]
 fn sll_word(v: u64, x: u64, y: u64) -> u64
     requires { v ≤ 64 }
     ensures { result ≡ sll_word v x y }
@@ -95,6 +104,7 @@ fn sll_word(v: u64, x: u64, y: u64) -> u64
     reduce(x << y, v)
 }
 
+#[tactic(auto, unfolding(crate::specs::Value::srl_word, loops::specs::Loop::pick))]
 fn srl_word(v: u64, x: u64, y: u64) -> u64
     requires { v ≤ 64 }
     ensures { result ≡ srl_word v x y }
@@ -106,6 +116,7 @@ fn srl_word(v: u64, x: u64, y: u64) -> u64
 }
 
 // A signed extension from v to w bits: with the top bit set, x less 2^v. For v = 64 the 2^v wraps to 0, which is the same modulo 2^w.
+#[tactic(auto, using(crate::proofs::value::Laws::word_rules))]
 fn sext_word(v: u64, w: u64, x: u64) -> u64
     requires { (v ≤ 64) × (w ≤ 64) }
     ensures { result ≡ sext_word v w x }
