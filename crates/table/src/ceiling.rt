@@ -63,15 +63,7 @@ fn ite_gates(n: u64, w: u64, v: u64) -> u64
 }
 
 // The gates of a node that is not given and no division, over a first operand x wide.
-#[tactic(
-    auto,
-    unfolding(
-        crate::specs::Ceiling::plain_gates,
-        crate::specs::Op::by_op,
-        digits::specs::Op::op_gates,
-        loops::specs::Loop::pick
-    )
-)]
+#[tactic(auto, unfolding(crate::specs::Ceiling::plain_gates, crate::specs::Op::by_op, digits::specs::Op::op_gates, loops::specs::Loop::pick))]
 fn plain_gates(n: u64, w: u64, node: Node, x: u64) -> u64
     requires { (n ≤ 64) × (w ≤ 64) × (node.width ≤ 64) × (x ≤ 64) }
     ensures { (result ≡ plain_gates n w node x) × (result ≤ 67108864) }

@@ -30,6 +30,7 @@ fn slot_bad(u: u64, values: &[u64], o: usize, j: usize) -> bool
 
 impl Layout<'_> {
     // Whether node i + 1 is given a value out of range.
+    #[tactic(auto, using(crate::proofs::input::Laws::input_none))]
     fn input_bad(&self, w: u64, values: &[u64], i: usize) -> bool
         requires { i < nodes self.now.table.now }
         ensures { result ≡ input_bad self.now.table.now self.now.addrs.now w values.now i }

@@ -106,6 +106,7 @@ impl Operands {
     }
 
     // The m slots of the node, from o on.
+    #[tactic(auto, using(loops::proofs::Loop::for_loop), unfolding(crate::specs::Eval::slot_step))]
     pub(crate) fn fill(self, o: usize, m: usize, values: &mut [u64])
         requires { (o ≤ 65536) × (m ≤ 64) × (o + m ≤ length values.old) }
         ensures { values.new ≡ iter m (slot_step self.node self.v o self.a self.b self.c self.p) values.old }

@@ -129,15 +129,7 @@ fn sext_word(v: u64, w: u64, x: u64) -> u64
 }
 
 // A word node's value, over the values x of its first operand, which is v wide, and y of its second.
-#[tactic(
-    auto,
-    unfolding(
-        crate::specs::Value::word_value,
-        table::specs::Op::by_op,
-        digits::specs::Op::op_value,
-        loops::specs::Loop::pick
-    )
-)]
+#[tactic(auto, unfolding(crate::specs::Value::word_value, table::specs::Op::by_op, digits::specs::Op::op_value, loops::specs::Loop::pick))]
 pub fn word_value(node: Node, v: u64, x: u64, y: u64) -> u64
     requires { (node.width ≤ 64) × (v ≤ 64) }
     ensures { result ≡ word_value node v x y }

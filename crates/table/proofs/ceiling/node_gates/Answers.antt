@@ -1,6 +1,5 @@
 use Prim.Native.Nat.{◌+◌}
 use mathlib.Core.Path.{ap}
-use borrow.Author.Rules.{rules}
 use native.Mathlib.Omega.{arith}
 use Rattle.table.proofs.ceiling.node_gates.Goals as goal
 
