@@ -13,7 +13,7 @@ pub bounds-out-i : goal.bounds-out-i
 bounds-out-i c = omega (arith, length-set c.args.out.now 0 0)
 
 pub node_size-requires : goal.node_size-requires
-node_size-requires c = (c.requires.n_bound.0, c.requires.n_bound.1, omega arith, c.requires.n_bound.3)
+node_size-requires c = (omega arith, c.requires.n_bound.3)
 
 pub loop-i-preserved : goal.loop-i-preserved
 loop-i-preserved c = (omega arith, search (rules, sum_more), search (rules, loop-more, store_step))
