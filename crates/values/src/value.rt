@@ -28,9 +28,9 @@ pub fn rem_word(x: u64, y: u64) -> u64
 
 // The width of a word: at most 64 bits.
 #[derive(Clone, Copy)]
-pub struct Width {
-    pub bits: u64,
-    pub ghost narrow: { bits ≤ 64 },
+struct Width {
+    bits: u64,
+    ghost narrow: { bits ≤ 64 },
 }
 
 impl Width {
@@ -84,16 +84,6 @@ impl Width {
         self.reduce(mul_low(x, y))
     }
 
-    #[tactic(auto, unfolding(crate::specs::Value::div_word, loops::specs::Loop::pick))]
-    pub fn div_word(self, x: u64, y: u64) -> u64
-        ensures { result ≡ div_word self.bits x y }
-    {
-        if y == 0 {
-            return self.mask();
-        }
-        x / y
-    }
-
     // An amount of width or more gives zero, in both shifts.
     #[tactic(auto, using(crate::proofs::value::Laws::word_rules), unfolding(crate::specs::Value::sll_word, loops::specs::Loop::pick))]
     fn sll_word(self, x: u64, y: u64) -> u64
@@ -128,6 +118,17 @@ impl Width {
     }
 }
 
+#[tactic(auto, unfolding(crate::specs::Value::div_word, loops::specs::Loop::pick))]
+pub fn div_word(v: u64, x: u64, y: u64) -> u64
+    requires { v ≤ 64 }
+    ensures { result ≡ div_word v x y }
+{
+    if y == 0 {
+        return Width { bits: v }.mask();
+    }
+    x / y
+}
+
 // A word node's value, over the values x of its first operand, which is v wide, and y of its second.
 #[tactic(auto, unfolding(crate::specs::Value::word_value, table::specs::Op::by_op, digits::specs::Op::op_value, loops::specs::Loop::pick))]
 pub fn word_value(node: Node, v: u64, x: u64, y: u64) -> u64
@@ -138,7 +139,7 @@ pub fn word_value(node: Node, v: u64, x: u64, y: u64) -> u64
     let from = Width { bits: v };
     match node.kind {
         CONST => node.imm,
-        DIVU => w.div_word(x, y),
+        DIVU => div_word(node.width, x, y),
         REM => rem_word(x, y),
         SEXT => from.sext_word(w, x),
         NOT => w.not_word(x),
