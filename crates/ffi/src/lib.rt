@@ -18,11 +18,7 @@ use netlist::sheet;
 use table::{Fault, Sums};
 
 // The sums of a table that was checked.
-#[tactic(
-    auto,
-    using(table::proofs::sheet::Laws::faulty),
-    unfolding(crate::specs::Count::room_for, loops::specs::Loop::pick)
-)]
+#[tactic(auto, using(table::proofs::sheet::Laws::faulty), unfolding(crate::specs::Count::room_for, loops::specs::Loop::pick))]
 fn room_of(table: &[u64], addrs: &[u64], word: u64, checked: Result<(), Fault>) -> Sums
     requires { checked ≡ table_fault table.now addrs.now word }
     ensures { result ≡ room_for table.now addrs.now word }

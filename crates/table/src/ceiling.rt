@@ -6,7 +6,7 @@ ghost use Rattle.table.specs.Ceiling.{div_gates, div_constraints, shift_gates, m
 
 use crate::field::{is_given, node_at, width_at};
 use crate::kind::{ADD, AND, EQ, ITE, MUL, NOT, OR, READ, SLL, SRL, SUB, ULT, WRITE, divides};
-use crate::size::{node_size, size_of, times};
+use crate::size::{Listing, times};
 use crate::{Node, Sums, Unit};
 use digits::powers_below;
 
@@ -45,65 +45,69 @@ fn shift_gates(v: u64) -> u64
     less_one(times(3 * v, s) + 2 * v - s)
 }
 
-// For each listed address k gates a bit, less one.
-#[tactic(auto, unfolding(crate::specs::Ceiling::memory_gates))]
-fn memory_gates(n: u64, w: u64, k: u64) -> u64
-    requires { (n ≤ 64) × (w ≤ 64) × (k ≤ 5) }
-    ensures { (result ≡ memory_gates n w k) × (result ≤ 67108864) }
-{
-    times(n, less_one(times(k, w)))
-}
-
-#[tactic(auto, unfolding(crate::specs::Ceiling::ite_gates))]
-fn ite_gates(n: u64, w: u64, v: u64) -> u64
-    requires { (n ≤ 64) × (w ≤ 64) × (v ≤ 64) }
-    ensures { (result ≡ ite_gates n w v) × (result ≤ 67108864) }
-{
-    3 * size_of(Unit::Bit, n, w, v)
-}
-
-// The gates of a node that is not given and no division, over a first operand x wide.
-#[tactic(
-    auto,
-    unfolding(
-        crate::specs::Ceiling::plain_gates,
-        crate::specs::Op::by_op,
-        digits::specs::Op::op_gates,
-        loops::specs::Loop::pick
-    )
-)]
-fn plain_gates(n: u64, w: u64, node: Node, x: u64) -> u64
-    requires { (n ≤ 64) × (w ≤ 64) × (node.width ≤ 64) × (x ≤ 64) }
-    ensures { (result ≡ plain_gates n w node x) × (result ≤ 67108864) }
-{
-    match node.kind {
-        ITE => ite_gates(n, w, node.width),
-        READ => memory_gates(n, w, 4),
-        WRITE => memory_gates(n, w, 5),
-        NOT | AND | OR => x,
-        EQ => less_one(3 * x),
-        ADD => 3 * x,
-        SUB => 4 * x,
-        ULT => 4 * x + 1,
-        MUL => times(2 * x, x + 1),
-        SLL | SRL => shift_gates(x),
-        _ => 0,
+impl Listing {
+    // For each listed address k gates a bit, less one.
+    #[tactic(auto, unfolding(crate::specs::Ceiling::memory_gates))]
+    fn memory_gates(self, k: u64) -> u64
+        requires { k ≤ 5 }
+        ensures { (result ≡ memory_gates self.n self.w k) × (result ≤ 67108864) }
+    {
+        times(self.n, less_one(times(k, self.w)))
     }
-}
 
-// The gates that a node may make.
-#[tactic(auto, unfolding(crate::specs::Ceiling::ceiling, loops::specs::Loop::pick))]
-fn ceiling(n: u64, w: u64, node: Node, x: u64) -> u64
-    requires { (n ≤ 64) × (w ≤ 64) × (node.width ≤ 64) × (x ≤ 64) }
-    ensures { (result ≡ top.ceiling n w node x) × (result ≤ 67108864) }
-{
-    if is_given(node) {
-        return size_of(Unit::Bit, n, w, node.width);
+    #[tactic(auto, unfolding(crate::specs::Ceiling::ite_gates))]
+    fn ite_gates(self, v: u64) -> u64
+        requires { v ≤ 64 }
+        ensures { (result ≡ ite_gates self.n self.w v) × (result ≤ 67108864) }
+    {
+        3 * self.size_of(Unit::Bit, v)
     }
-    if divides(node.kind) {
-        return div_gates(node.width);
+
+    // The gates of a node that is not given and no division, over a first operand x wide.
+    #[tactic(auto, unfolding(crate::specs::Ceiling::plain_gates, crate::specs::Op::by_op, digits::specs::Op::op_gates, loops::specs::Loop::pick))]
+    fn plain_gates(self, node: Node, x: u64) -> u64
+        requires { (node.width ≤ 64) × (x ≤ 64) }
+        ensures { (result ≡ plain_gates self.n self.w node x) × (result ≤ 67108864) }
+    {
+        match node.kind {
+            ITE => self.ite_gates(node.width),
+            READ => self.memory_gates(4),
+            WRITE => self.memory_gates(5),
+            NOT | AND | OR => x,
+            EQ => less_one(3 * x),
+            ADD => 3 * x,
+            SUB => 4 * x,
+            ULT => 4 * x + 1,
+            MUL => times(2 * x, x + 1),
+            SLL | SRL => shift_gates(x),
+            _ => 0,
+        }
     }
-    plain_gates(n, w, node, x)
+
+    // The gates that a node may make.
+    #[tactic(auto, unfolding(crate::specs::Ceiling::ceiling, loops::specs::Loop::pick))]
+    fn ceiling(self, node: Node, x: u64) -> u64
+        requires { (node.width ≤ 64) × (x ≤ 64) }
+        ensures { (result ≡ top.ceiling self.n self.w node x) × (result ≤ 67108864) }
+    {
+        if is_given(node) {
+            return self.size_of(Unit::Bit, node.width);
+        }
+        if divides(node.kind) {
+            return div_gates(node.width);
+        }
+        self.plain_gates(node, x)
+    }
+
+    // The gates of node i + 1.
+    #[tactic(auto, unfolding(crate::specs::Ceiling::node_gates))]
+    pub fn node_gates(self, table: &[u64], i: usize) -> u64
+        requires { (i < 512) × Narrow table.now }
+        ensures { (result ≡ node_gates table.now self.n self.w i) × (result ≤ 67108864) }
+    {
+        let node = node_at(table, i + 1);
+        self.ceiling(node, width_at(table, node.a))
+    }
 }
 
 // The constraints that a node may record.
@@ -116,16 +120,6 @@ fn constraint_ceiling(node: Node) -> u64
         return div_constraints(node.width);
     }
     0
-}
-
-// The gates of node i + 1.
-#[tactic(auto, unfolding(crate::specs::Ceiling::node_gates))]
-pub fn node_gates(table: &[u64], n: u64, w: u64, i: usize) -> u64
-    requires { (n ≤ 64) × (w ≤ 64) × (i < 512) × Narrow table.now }
-    ensures { (result ≡ node_gates table.now n w i) × (result ≤ 67108864) }
-{
-    let node = node_at(table, i + 1);
-    ceiling(n, w, node, width_at(table, node.a))
 }
 
 // The constraints of node i + 1.
@@ -142,14 +136,17 @@ pub fn sums(table: &[u64], addrs: &[u64], w: u64) -> Sums
     requires { table_fault table.now addrs.now w ≡ Ok tt }
     ensures { result ≡ sums_of table.now (length addrs.now) w }
 {
-    let n = addrs.len() as u64;
+    let listing = Listing {
+        n: addrs.len() as u64,
+        w,
+    };
     let m = table.len() / 6;
     let mut gates = 2;
     let mut map = 0;
     let mut constraints = 0;
     for i in 0..m {
-        gates += node_gates(table, n, w, i);
-        map += node_size(Unit::Bit, table, n, w, i);
+        gates += listing.node_gates(table, i);
+        map += listing.node_size(Unit::Bit, table, i);
         constraints += node_constraints(table, i);
     }
     Sums {

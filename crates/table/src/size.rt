@@ -13,35 +13,37 @@ pub fn times(a: u64, b: u64) -> u64
     a * b
 }
 
-// The places of a node of width v, where n addresses are listed and words are w wide.
-#[tactic(auto, unfolding(loops::specs::Loop::pick))]
-pub fn size_of(unit: Unit, n: u64, w: u64, v: u64) -> u64
-    requires { (n ≤ 64) × (w ≤ 64) × (v ≤ 64) }
-    ensures { (result ≡ size_of unit n w v) × (result ≤ 16777216) }
-{
-    match unit {
-        Unit::Bit => {
-            if v == 0 {
-                return times(n, w);
-            }
-            v
-        }
-        Unit::Slot => {
-            if v == 0 {
-                return n;
-            }
-            1
-        }
-    }
+// How many addresses are listed, and how wide a memory's words are.
+#[derive(Clone, Copy)]
+pub struct Listing {
+    pub n: u64,
+    pub w: u64,
+    pub ghost small: { (n ≤ 64) × (w ≤ 64) },
 }
 
-// The places of node i + 1.
-#[tactic(auto, unfolding(crate::specs::Size::node_size))]
-pub fn node_size(unit: Unit, table: &[u64], n: u64, w: u64, i: usize) -> u64
-    requires { (n ≤ 64) × (w ≤ 64) × (i < 512) × Narrow table.now }
-    ensures { (result ≡ node_size unit table.now n w i) × (result ≤ 16777216) }
-{
-    size_of(unit, n, w, width_at(table, (i + 1) as u64))
+impl Listing {
+    // The places of a node of width v.
+    #[tactic(auto, unfolding(loops::specs::Loop::pick))]
+    pub fn size_of(self, unit: Unit, v: u64) -> u64
+        requires { v ≤ 64 }
+        ensures { (result ≡ size_of unit self.n self.w v) × (result ≤ 16777216) }
+    {
+        match unit {
+            Unit::Bit if v == 0 => times(self.n, self.w),
+            Unit::Bit => v,
+            Unit::Slot if v == 0 => self.n,
+            Unit::Slot => 1,
+        }
+    }
+
+    // The places of node i + 1.
+    #[tactic(auto, unfolding(crate::specs::Size::node_size))]
+    pub fn node_size(self, unit: Unit, table: &[u64], i: usize) -> u64
+        requires { (i < 512) × Narrow table.now }
+        ensures { (result ≡ node_size unit table.now self.n self.w i) × (result ≤ 16777216) }
+    {
+        self.size_of(unit, width_at(table, (i + 1) as u64))
+    }
 }
 
 // Where each node's places begin, at its number; after the last, where they end. The end is the answer too.
@@ -50,12 +52,13 @@ pub fn offsets(unit: Unit, table: &[u64], n: u64, w: u64, out: &mut [usize]) -> 
     requires table_in_bounds { nodes table.now + 2 ≤ length out.old }
     ensures { (result ≡ size_sum unit table.now n w) × (out.new ≡ offsets_into unit table.now n w out.old) }
 {
+    let listing = Listing { n, w };
     let m = table.len() / 6;
     let mut at = 0;
     out[0] = 0;
     for i in 0..m {
         out[i + 1] = at;
-        at += node_size(unit, table, n, w, i) as usize;
+        at += listing.node_size(unit, table, i) as usize;
     }
     out[m + 1] = at;
     at

@@ -36,6 +36,7 @@ impl OnSheet for Refusal {
 
 impl Layout<'_> {
     // Node i + 1, over the values of its operands.
+    #[tactic(auto, using(crate::proofs::eval::Laws::node_rules))]
     fn eval_node(&self, i: usize, values: &mut [u64])
         requires { (i < nodes self.now.table.now) × (total self.now.table.now self.now.addrs.now ≤ length values.old) }
         ensures { values.new ≡ node_step self.now.table.now self.now.addrs.now i values.old }
@@ -57,6 +58,7 @@ impl Layout<'_> {
     }
 
     // All nodes upwards.
+    #[tactic(auto, using(loops::proofs::Loop::for_loop))]
     fn eval_all(&self, values: &mut [u64])
         requires { total self.now.table.now self.now.addrs.now ≤ length values.old }
         ensures { values.new ≡ iter (nodes self.now.table.now) (node_step self.now.table.now self.now.addrs.now) values.old }
@@ -68,6 +70,7 @@ impl Layout<'_> {
 }
 
 // A table without fault. The offsets are worked out once, into a list that is lent for it.
+#[tactic(auto, using(crate::proofs::eval::Laws::clear_rules))]
 fn eval_clear(
     table: &[u64],
     addrs: &[u64],
@@ -97,6 +100,7 @@ fn eval_clear(
 }
 
 // The values of all nodes: given slots are read, the others worked out.
+#[tactic(auto, unfolding(crate::specs::Eval::eval_words))]
 pub fn eval_words(table: &[u64], addrs: &[u64], w: u64, values: &mut [u64]) -> Result<(), Refusal>
     ensures { run result values.new ≡ eval_words table.now addrs.now w values.old }
 {

@@ -10,6 +10,7 @@ use table::field::{is_given, node_at};
 use table::sheet::fits;
 
 // A slot of a node is below 2 to this.
+#[tactic(auto, unfolding(crate::specs::Eval::slot_width, loops::specs::Loop::pick))]
 fn slot_width(w: u64, node: Node) -> u64
     ensures { result ≡ slot_width w node }
 {
@@ -19,6 +20,7 @@ fn slot_width(w: u64, node: Node) -> u64
     node.width
 }
 
+#[tactic(auto, unfolding(crate::specs::Eval::slot_bad))]
 fn slot_bad(u: u64, values: &[u64], o: usize, j: usize) -> bool
     requires { (o ≤ 65536) × (j ≤ 64) }
     ensures { result ≡ slot_bad u values.now o j }
@@ -28,6 +30,7 @@ fn slot_bad(u: u64, values: &[u64], o: usize, j: usize) -> bool
 
 impl Layout<'_> {
     // Whether node i + 1 is given a value out of range.
+    #[tactic(auto, using(crate::proofs::input::Laws::input_none))]
     fn input_bad(&self, w: u64, values: &[u64], i: usize) -> bool
         requires { i < nodes self.now.table.now }
         ensures { result ≡ input_bad self.now.table.now self.now.addrs.now w values.now i }

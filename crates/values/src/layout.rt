@@ -13,7 +13,7 @@ pub struct Layout<'a> {
 
 impl Layout<'_> {
     // Where the slots of node i begin: not far.
-    pub fn offset(&self, i: usize) -> usize
+    pub(crate) fn offset(&self, i: usize) -> usize
         requires { i ≤ nodes self.now.table.now + 1 }
         ensures { (result ≡ offset self.now.table.now self.now.addrs.now i) × (result ≤ 65536) }
     {

@@ -8,7 +8,7 @@ ghost use Rattle.values.specs.Eval.{slot_step};
 use crate::value::word_value;
 use table::kind::{ITE, READ, STATE, WRITE, accesses};
 use table::sheet::find;
-use table::size::size_of;
+use table::size::Listing;
 use table::{Node, Unit};
 
 // A slot of any buffer; 0 where there is none.
@@ -23,8 +23,11 @@ pub fn slots_of(addrs: &[u64], node: Node) -> usize
     requires { (length addrs.now ≤ 64) × (node.width ≤ 64) }
     ensures { (result ≡ size_of Unit.Slot (length addrs.now) 0 node.width) × (result ≤ 64) }
 {
-    let n = addrs.len() as u64;
-    size_of(Unit::Slot, n, 0, node.width) as usize
+    let listing = Listing {
+        n: addrs.len() as u64,
+        w: 0,
+    };
+    listing.size_of(Unit::Slot, node.width) as usize
 }
 
 // The place of the address that a read or write has in slot b. It is looked for once a node, not once a slot.
@@ -106,7 +109,8 @@ impl Operands {
     }
 
     // The m slots of the node, from o on.
-    pub fn fill(self, o: usize, m: usize, values: &mut [u64])
+    #[tactic(auto, using(loops::proofs::Loop::for_loop), unfolding(crate::specs::Eval::slot_step))]
+    pub(crate) fn fill(self, o: usize, m: usize, values: &mut [u64])
         requires { (o ≤ 65536) × (m ≤ 64) × (o + m ≤ length values.old) }
         ensures { values.new ≡ iter m (slot_step self.node self.v o self.a self.b self.c self.p) values.old }
     {

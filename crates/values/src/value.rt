@@ -4,27 +4,6 @@ ghost use Rattle.values.specs.Value.{not_word, add_word, sub_word, mul_word, div
 use table::Node;
 use table::kind::{ADD, AND, CONST, DIVU, EQ, MUL, NOT, OR, REM, SEXT, SLL, SRL, SUB, ULT};
 
-// x modulo 2^v.
-fn reduce(x: u64, v: u64) -> u64
-    ensures { result ≡ x % 2 ^ v }
-{
-    if v < 64 {
-        return x % (1 << v);
-    }
-    x
-}
-
-// v ones.
-fn mask(v: u64) -> u64
-    requires { v ≤ 64 }
-    ensures { result ≡ 2 ^ v - 1 }
-{
-    if v < 64 {
-        return (1 << v) - 1;
-    }
-    18446744073709551615
-}
-
 // The low half of a product, from the halves of its factors: no product on the way wraps.
 fn mul_low(x: u64, y: u64) -> u64
     ensures { result ≡ x * y % 2 ^ 64 }
@@ -37,44 +16,7 @@ fn mul_low(x: u64, y: u64) -> u64
     std::num::wrapping_add_u64(mid << 32, x0 * y0)
 }
 
-fn not_word(v: u64, x: u64) -> u64
-    requires { v ≤ 64 }
-    ensures { result ≡ not_word v x }
-{
-    mask(v) - reduce(x, v)
-}
-
-fn add_word(v: u64, x: u64, y: u64) -> u64
-    requires { v ≤ 64 }
-    ensures { result ≡ add_word v x y }
-{
-    reduce(std::num::wrapping_add_u64(x, y), v)
-}
-
-fn sub_word(v: u64, x: u64, y: u64) -> u64
-    requires { v ≤ 64 }
-    ensures { result ≡ sub_word v x y }
-{
-    reduce(std::num::wrapping_sub_u64(x, y), v)
-}
-
-fn mul_word(v: u64, x: u64, y: u64) -> u64
-    requires { v ≤ 64 }
-    ensures { result ≡ mul_word v x y }
-{
-    reduce(mul_low(x, y), v)
-}
-
-pub fn div_word(v: u64, x: u64, y: u64) -> u64
-    requires { v ≤ 64 }
-    ensures { result ≡ div_word v x y }
-{
-    if y == 0 {
-        return mask(v);
-    }
-    x / y
-}
-
+#[tactic(auto, unfolding(crate::specs::Value::rem_word, loops::specs::Loop::pick))]
 pub fn rem_word(x: u64, y: u64) -> u64
     ensures { result ≡ rem_word x y }
 {
@@ -84,69 +26,132 @@ pub fn rem_word(x: u64, y: u64) -> u64
     x % y
 }
 
-// An amount of width or more gives zero, in both shifts.
-fn sll_word(v: u64, x: u64, y: u64) -> u64
-    requires { v ≤ 64 }
-    ensures { result ≡ sll_word v x y }
-{
-    if v <= y {
-        return 0;
-    }
-    reduce(x << y, v)
+// The width of a word: at most 64 bits.
+#[derive(Clone, Copy)]
+struct Width {
+    bits: u64,
+    ghost narrow: { bits ≤ 64 },
 }
 
-fn srl_word(v: u64, x: u64, y: u64) -> u64
-    requires { v ≤ 64 }
-    ensures { result ≡ srl_word v x y }
-{
-    if y < v {
-        return x >> y;
+impl Width {
+    // x modulo 2 to the width.
+    #[tactic(auto, using(crate::proofs::value::Laws::mask_rules))]
+    fn reduce(self, x: u64) -> u64
+        ensures { result ≡ x % 2 ^ self.bits }
+    {
+        if self.bits < 64 {
+            return x % (1 << self.bits);
+        }
+        x
     }
-    0
+
+    // Ones.
+    #[tactic(auto, using(crate::proofs::value::Laws::mask_rules))]
+    fn mask(self) -> u64
+        ensures { result ≡ 2 ^ self.bits - 1 }
+    {
+        if self.bits < 64 {
+            return (1 << self.bits) - 1;
+        }
+        18446744073709551615
+    }
+
+    #[tactic(auto, using(crate::proofs::value::Laws::word_rules))]
+    fn not_word(self, x: u64) -> u64
+        ensures { result ≡ not_word self.bits x }
+    {
+        self.mask() - self.reduce(x)
+    }
+
+    #[tactic(auto, using(crate::proofs::value::Laws::word_rules))]
+    fn add_word(self, x: u64, y: u64) -> u64
+        ensures { result ≡ add_word self.bits x y }
+    {
+        self.reduce(std::num::wrapping_add_u64(x, y))
+    }
+
+    #[tactic(auto, using(crate::proofs::value::Laws::word_rules))]
+    fn sub_word(self, x: u64, y: u64) -> u64
+        ensures { result ≡ sub_word self.bits x y }
+    {
+        self.reduce(std::num::wrapping_sub_u64(x, y))
+    }
+
+    #[tactic(auto, using(crate::proofs::value::Laws::word_rules))]
+    fn mul_word(self, x: u64, y: u64) -> u64
+        ensures { result ≡ mul_word self.bits x y }
+    {
+        self.reduce(mul_low(x, y))
+    }
+
+    // An amount of width or more gives zero, in both shifts.
+    #[tactic(auto, using(crate::proofs::value::Laws::word_rules), unfolding(crate::specs::Value::sll_word, loops::specs::Loop::pick))]
+    fn sll_word(self, x: u64, y: u64) -> u64
+        ensures { result ≡ sll_word self.bits x y }
+    {
+        if self.bits <= y {
+            return 0;
+        }
+        self.reduce(x << y)
+    }
+
+    #[tactic(auto, unfolding(crate::specs::Value::srl_word, loops::specs::Loop::pick))]
+    fn srl_word(self, x: u64, y: u64) -> u64
+        ensures { result ≡ srl_word self.bits x y }
+    {
+        if y < self.bits {
+            return x >> y;
+        }
+        0
+    }
+
+    // A signed extension to another width: with the top bit set, x less 2^bits. For 64 bits that wraps to 0, which is the same modulo the other's.
+    #[tactic(auto, using(crate::proofs::value::Laws::word_rules))]
+    fn sext_word(self, to: Width, x: u64) -> u64
+        ensures { result ≡ sext_word self.bits to.bits x }
+    {
+        let low = self.mask();
+        if low / 2 < x {
+            return to.sub_word(x, std::num::wrapping_add_u64(low, 1));
+        }
+        x
+    }
 }
 
-// A signed extension from v to w bits: with the top bit set, x less 2^v. For v = 64 the 2^v wraps to 0, which is the same modulo 2^w.
-fn sext_word(v: u64, w: u64, x: u64) -> u64
-    requires { (v ≤ 64) × (w ≤ 64) }
-    ensures { result ≡ sext_word v w x }
+#[tactic(auto, unfolding(crate::specs::Value::div_word, loops::specs::Loop::pick))]
+pub fn div_word(v: u64, x: u64, y: u64) -> u64
+    requires { v ≤ 64 }
+    ensures { result ≡ div_word v x y }
 {
-    let low = mask(v);
-    if low / 2 < x {
-        return sub_word(w, x, std::num::wrapping_add_u64(low, 1));
+    if y == 0 {
+        return Width { bits: v }.mask();
     }
-    x
+    x / y
 }
 
 // A word node's value, over the values x of its first operand, which is v wide, and y of its second.
-#[tactic(
-    auto,
-    unfolding(
-        crate::specs::Value::word_value,
-        table::specs::Op::by_op,
-        digits::specs::Op::op_value,
-        loops::specs::Loop::pick
-    )
-)]
+#[tactic(auto, unfolding(crate::specs::Value::word_value, table::specs::Op::by_op, digits::specs::Op::op_value, loops::specs::Loop::pick))]
 pub fn word_value(node: Node, v: u64, x: u64, y: u64) -> u64
     requires { (node.width ≤ 64) × (v ≤ 64) }
     ensures { result ≡ word_value node v x y }
 {
-    let w = node.width;
+    let w = Width { bits: node.width };
+    let from = Width { bits: v };
     match node.kind {
         CONST => node.imm,
-        DIVU => div_word(w, x, y),
+        DIVU => div_word(node.width, x, y),
         REM => rem_word(x, y),
-        SEXT => sext_word(v, w, x),
-        NOT => not_word(w, x),
+        SEXT => from.sext_word(w, x),
+        NOT => w.not_word(x),
         AND => x & y,
         EQ => (x == y) as u64,
-        ADD => add_word(w, x, y),
-        SUB => sub_word(w, x, y),
+        ADD => w.add_word(x, y),
+        SUB => w.sub_word(x, y),
         ULT => (x < y) as u64,
-        MUL => mul_word(w, x, y),
+        MUL => w.mul_word(x, y),
         OR => x | y,
-        SLL => sll_word(w, x, y),
-        SRL => srl_word(w, x, y),
+        SLL => w.sll_word(x, y),
+        SRL => w.srl_word(x, y),
         _ => x,
     }
 }

@@ -1,16 +1,14 @@
 -- Ceilings and their sums, path by path.
-use mathlib.Core.Path.{◌≡◌, sym, ◌∙◌}
-use mathlib.Core.Bool.{Bool, true, false}
+use mathlib.Core.Path.{◌≡◌}
 use mathlib.Core.List.{List}
 use Prim.Native.Nat.{ℕ, ◌+◌, ◌≤◌}
 use native.Mathlib.Omega.{arith}
 use Rattle.loops.specs.Loop.{sum}
-use Rattle.table.specs.declared.Node.{Node}
 use Rattle.table.specs.declared.Sums.{Sums}
 use Rattle.table.specs.declared.Unit.TheVariants.{Bit}
-use Rattle.table.specs.Node.{field_at, node_at, nodes}
+use Rattle.table.specs.Node.{nodes}
 use Rattle.table.specs.Size.{node_size, size_sum}
-use Rattle.table.specs.Ceiling.{ceiling, node_gates, node_constraints, sums_of}
+use Rattle.table.specs.Ceiling.{node_gates, node_constraints, sums_of}
 
 pub sums-path : (t : List ℕ) (n w g m c i : ℕ) → nodes t ≤ i → i ≤ nodes t → g ≡ 2 + sum i (node_gates t n w) → m ≡ 0 + sum i (node_size Bit t n w) → c ≡ 0 + sum i (node_constraints t)
     → ◌≡◌ {A = Sums} (record { gates = g; map = m; constraints = c }) (sums_of t n w)

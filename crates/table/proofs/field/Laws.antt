@@ -2,9 +2,8 @@
 use mathlib.Core.Path.{◌≡◌, sym}
 use mathlib.Core.List.{List}
 use Prim.Native.Nat.{ℕ, ◌+◌, ◌-◌, ◌*◌, ◌≤◌}
-use native.Mathlib.Omega.{arith}
 use lib.ListN.{length, get_or, get_or-eq_default}
-use borrow.Author.Tests.{eq-eqb, ne_eqb}
+use borrow.Author.Tests.{ne_eqb}
 use Rattle.loops.specs.Loop.{pick}
 use Rattle.table.specs.Node.{field_at}
 

@@ -1,7 +1,7 @@
 -- The refusal sheet, path by path.
-use mathlib.Core.Path.{◌≡◌, refl, ap, sym, ◌∙◌}
+use mathlib.Core.Path.{◌≡◌, refl, sym}
 use mathlib.Core.List.{List}
-use Rattle.std.specs.Prelude.{Result, Ok, Err}
+use Rattle.std.specs.Prelude.{Ok, Err}
 use mathlib.Core.Bool.{Bool, true, false, not, ◌||◌}
 use Prim.Native.Nat.{ℕ, ◌+◌, ◌*◌, ◌/◌, ◌^◌, ◌≤◌, ◌<◌}
 use native.Mathlib.Omega.{arith}
@@ -18,10 +18,8 @@ use Rattle.loops.specs.Loop.{pick, first}
 use Rattle.loops.proofs.Loop.{first-none, first_more, first_found}
 use Rattle.table.specs.declared.Fault.{Fault}
 use Rattle.table.specs.declared.Fault.TheVariants.{Size, Address, Kind, NotLowered, Operand, Sort}
-use Rattle.table.specs.declared.Node.{Node}
-use Rattle.table.specs.Kind.{named, lowered}
 use Rattle.table.specs.Node.{nodes}
-use Rattle.table.specs.Sheet.{is_clear, size_good, is_at, address_bad, addresses_bad, operands_good, sorts_good, fault_of, node_fault, node_bad, nodes_fault, table_fault}
+use Rattle.table.specs.Sheet.{is_clear, is_at, address_bad, node_fault, node_bad, nodes_fault}
 
 -- a shift tests a bound
 pub fits-small : (x k : ℕ) → eqb (x / 2 ^ k) 0 ≡ ltb x (2 ^ k)

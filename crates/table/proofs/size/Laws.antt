@@ -1,19 +1,17 @@
 -- Places and offsets.
 use mathlib.Core.Path.{◌≡◌, refl, ap, sym, ◌∙◌}
 use mathlib.Core.List.{List}
-use Prim.Native.Nat.{ℕ, zero, suc, ◌+◌, ◌-◌, ◌*◌, ◌≤◌, ◌<◌}
+use Prim.Native.Nat.{ℕ, zero, suc, ◌+◌, ◌-◌, ◌≤◌, ◌<◌}
 use native.Mathlib.Omega.{arith}
 use native.Mathlib.Decide.{dec_lt}
 use native.Mathlib.Numerals.{add-one}
 use lib.ListN.{length, get_or, set, length-set}
 use lib.Seq.{get_or-set_other, get_or-set_same}
-use borrow.Author.Tests.{eq-eqb, ne_eqb}
 use Rattle.loops.specs.Loop.{iter, sum}
-use Rattle.loops.proofs.Loop.{pick_true, pick-false, iter-inv, loop-more}
+use Rattle.loops.proofs.Loop.{iter-inv, loop-more}
 use Rattle.table.specs.declared.Unit.{Unit}
-use Rattle.table.specs.declared.Unit.TheVariants.{Bit, Slot}
 use Rattle.table.specs.Node.{nodes}
-use Rattle.table.specs.Size.{size_of, node_size, offset_of, size_sum, offset_step, offsets_into, Offsets}
+use Rattle.table.specs.Size.{node_size, offset_of, size_sum, offset_step, offsets_into, Offsets}
 
 -- a sum grows by one term
 module _ (f : ℕ → ℕ) where

@@ -47,3 +47,7 @@ module _ (t l : List ℕ) (w : ℕ) (v : List ℕ) (x : ℕ) (e : x ≡ total t 
     pub clear-done : (y : List ℕ) → None ≡ found (nodes t) (input_bad t l w v) → y ≡ iter (nodes t) (node_step t l) v → run (Ok tt) y ≡ eval_clear t l w v
     unfolding eval_clear pick
     clear-done y q k = rw (← e, le-ltb (length v) x m, le-ltb (first (nodes t) (input_bad t l w v)) (nodes t) (none_first (input_bad t l w v) (nodes t) q), k)
+
+pub ruleset node_rules = (node_kept, node_made)
+
+pub ruleset clear_rules = (clear_room, clear-input, clear-done)

@@ -1,5 +1,5 @@
 -- Refusal 13, path by path.
-use Rattle.std.proofs.Common.{◌≡◌, ℕ, ◌+◌, ◌^◌, Bool, true, false, not, ltb, List, length, get_or, sym, ap, ◌∙◌}
+use Rattle.std.proofs.Common.{◌≡◌, ℕ, ◌+◌, Bool, true, false, not, ltb, List, length, sym, ap, ◌∙◌}
 use borrow.Author.Tests.{not-true, not-false}
 use Rattle.loops.specs.Loop.{first}
 use Rattle.table.specs.declared.Node.{Node}
@@ -7,10 +7,6 @@ use Rattle.table.specs.declared.Unit.TheVariants.{Slot}
 use Rattle.table.specs.Node.{node_at, given}
 use Rattle.table.specs.Size.{size_of, node_size}
 use Rattle.values.specs.Eval.{offset, slot_width, slot_bad, input_bad}
-
-pub slot-out : (u o j : ℕ) (vals : List ℕ) (x : ℕ) (r : Bool) → x ≡ get_or vals (o + j) 0 → r ≡ ltb x (2 ^ u) → not r ≡ slot_bad u vals o j
-unfolding slot_bad
-slot-out u o j vals x r e q = rw (← e, ← q)
 
 module _ (t l : List ℕ) (w : ℕ) (vals : List ℕ) (i : ℕ) (d : Node) (r : Bool) (e : d ≡ node_at t (i + 1)) (g : r ≡ given d) where
   is-given : given (node_at t (i + 1)) ≡ r

@@ -104,6 +104,10 @@ module _ (v w x m : ℕ) (e : m ≡ 2 ^ v - 1) where
       ∙ (less-top v w x (dec_lt v w)
       ∙ sym (pick-false _ _ _ (le-ltb x (2 ^ (v - 1)) (omega (arith, half-ones v))))))
 
+pub ruleset mask_rules = (shift-pos, reduce-small, reduce-whole, mask-small, mask-whole)
+
+pub ruleset word_rules = (below-mask, not-path, add-path, sub-path, mul-path, sll-path, sext-clear, sext-set)
+
 -- a product of two numbers of two digits
 pub expand : (a b c d p : ℕ) → (a * p + b) * (c * p + d) ≡ a * c * (p * p) + (a * d + b * c) * p + b * d
 expand a b c d p =

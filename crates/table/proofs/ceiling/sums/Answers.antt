@@ -8,14 +8,17 @@ use Rattle.table.proofs.ceiling.sums.Goals as goal
 pub loop-i-init : goal.loop-i-init
 loop-i-init c = (omega arith, omega arith, omega arith, sum-none _ 2, sum-none _ 0, sum-none _ 0)
 
+pub invariant_of-listing : goal.invariant_of-listing
+invariant_of-listing c = record { small = ((fine _ _ _ c.requires).short, (within _ _ _ c.requires).4) }
+
 pub node_gates-gates-requires : goal.node_gates-gates-requires
-node_gates-gates-requires c = let q = fine _ _ _ c.requires in (q.short, (within _ _ _ c.requires).4, omega (arith, q.few), q.narrow)
+node_gates-gates-requires c = let q = fine _ _ _ c.requires in (omega (arith, q.few), q.narrow)
 
 pub overflow_add-gates : goal.overflow_add-gates
 overflow_add-gates c = let q = fine _ _ _ c.requires in omega (arith, q.few)
 
 pub node_size-map-requires : goal.node_size-map-requires
-node_size-map-requires c = let q = fine _ _ _ c.requires in (q.short, (within _ _ _ c.requires).4, omega (arith, q.few), q.narrow)
+node_size-map-requires c = let q = fine _ _ _ c.requires in (omega (arith, q.few), q.narrow)
 
 pub overflow_add-map : goal.overflow_add-map
 overflow_add-map c = let q = fine _ _ _ c.requires in omega (arith, q.few)

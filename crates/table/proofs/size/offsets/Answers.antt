@@ -1,4 +1,3 @@
-use mathlib.Core.Path.{refl}
 use Prim.Native.Nat.{◌+◌, ◌/◌}
 use borrow.Author.Rules.{rules}
 use native.Mathlib.Omega.{arith}
@@ -8,16 +7,16 @@ use Rattle.table.proofs.size.Laws.{sum-none, sum_more, store_step, store-last, s
 use Rattle.table.proofs.size.offsets.Goals as goal
 
 pub loop-i-init : goal.loop-i-init
-loop-i-init c = (refl, omega arith, sum-none _ 0, search (rules, loop-none))
+loop-i-init c = (omega arith, sum-none _ 0, search (rules, loop-none))
 
 pub bounds-out-i : goal.bounds-out-i
 bounds-out-i c = omega (arith, length-set c.args.out.now 0 0)
 
 pub node_size-requires : goal.node_size-requires
-node_size-requires c = (c.requires.n_bound.0, c.requires.n_bound.1, omega arith, c.requires.n_bound.3)
+node_size-requires c = (omega arith, c.requires.n_bound.3)
 
 pub loop-i-preserved : goal.loop-i-preserved
-loop-i-preserved c = (search rules, omega arith, search (rules, sum_more), search (rules, loop-more, store_step))
+loop-i-preserved c = (omega arith, search (rules, sum_more), search (rules, loop-more, store_step))
 
 pub bounds-out-m : goal.bounds-out-m
 bounds-out-m c = omega (arith, length-set c.args.out.now 0 0)

@@ -1,11 +1,8 @@
-use Rattle.std.proofs.Common.{arith, rules, sym, ◌∙◌}
+use Rattle.std.proofs.Common.{arith, sym, ◌∙◌}
 use Rattle.values.proofs.ByKind.{place_in}
 use Rattle.values.proofs.slot.Laws.{operands-in}
-use Rattle.values.proofs.eval.Laws.{node_kept, node_made, fill-room}
+use Rattle.values.proofs.eval.Laws.{fill-room}
 use Rattle.values.proofs.layout.Layout.eval_node.Goals as goal
-
-pub returns-then-is_given : goal.returns-then-is_given
-returns-then-is_given c = search (rules, node_kept)
 
 pub invariant_of-operands : goal.invariant_of-operands
 invariant_of-operands c =
@@ -18,6 +15,3 @@ invariant_of-operands c =
 
 pub fill-requires : goal.fill-requires
 fill-requires c = (c.offset-3.ensures.1, c.slots_of.ensures.1, fill-room _ _ _ _ _ _ _ c.requires.0 c.node_at-node.ensures c.offset-3.ensures.0 c.slots_of.ensures.0 c.requires.1)
-
-pub returns : goal.returns
-returns c = search (rules, node_made)

@@ -2,11 +2,8 @@ use Rattle.std.proofs.Common.{rules, tests, ap, refl, ◌∙◌}
 use mathlib.Core.Bool.{not}
 use Rattle.table.proofs.Any.{by_any}
 use Rattle.values.specs.Eval.{slot_bad}
-use Rattle.values.proofs.input.Laws.{input_none, input-path}
+use Rattle.values.proofs.input.Laws.{input-path}
 use Rattle.values.proofs.layout.Layout.input_bad.Goals as goal
-
-pub returns-then-not-is_given : goal.returns-then-not-is_given
-returns-then-not-is_given c = search (rules, input_none)
 
 pub returns : goal.returns
 returns c =

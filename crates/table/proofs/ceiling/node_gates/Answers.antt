@@ -1,8 +1,0 @@
-use Prim.Native.Nat.{◌+◌}
-use mathlib.Core.Path.{ap}
-use borrow.Author.Rules.{rules}
-use native.Mathlib.Omega.{arith}
-use Rattle.table.proofs.ceiling.node_gates.Goals as goal
-
-pub ceiling-requires : goal.ceiling-requires
-ceiling-requires c = omega (arith, ap (λ d. d.width) c.node_at-node.ensures, c.width_at.ensures, c.requires.3 (c.args.i + 1), c.requires.3 c.node_at-node.result.a, c.requires)
