@@ -54,7 +54,7 @@ pub fn each_bit(
     }
 }
 
-// The same where the right word is replaced by the word that is made.
+// The same where the right word is replaced by the word that is made. (Not `each_bit` with `out` twice: a slice that is lent to be written is lent once.)
 pub fn each_onto(list: &mut GateList, op: Bitwise, left: &[u32], w: usize, out: &mut [u32])
     requires fits { Fits list.old (each_cost op left.now out.old w) }
     requires w_in_bounds { (w ≤ length left.now) × (w ≤ length out.old) }

@@ -1,4 +1,5 @@
-// Operations on words: chains of operations on bits. A word is a part of a bit map, one u32 a bit, lowest first.
+// Operations on words: chains of operations on bits. A word is a part of a bit map, one u32 a bit, lowest first. Its width stands beside the slice
+// and not in it: a scratch word is an array of 65 (no heap, fixed memory), of which the first w bits are used.
 #![tactic(auto)]
 
 pub mod add;
