@@ -53,7 +53,7 @@ pub struct Operands {
     pub p: Option<usize>,
     pub ghost narrow: { (node.width ≤ 64) × (v ≤ 64) },
     pub ghost near: { (a ≤ 65536) × (b ≤ 65536) × (c ≤ 65536) },
-    pub ghost placed: { ForSome p (λ i. i < 64) },
+    pub ghost placed: { ForSome p (λ i. i ≤ 64) },
 }
 
 impl Operands {
