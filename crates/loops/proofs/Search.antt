@@ -6,7 +6,7 @@ use lib.Dec.{leb, ltb}
 use lib.ListN.{length, get_or}
 use mathlib.Core.Bool.{Bool, true, false, not}
 use mathlib.Core.List.{List}
-use mathlib.Core.Path.{◌≡◌, refl, sym, ◌∙◌, subst}
+use mathlib.Core.Path.{◌≡◌, refl, sym, ◌∙◌}
 use native.Mathlib.Decide.{dec_lt}
 use native.Mathlib.Omega.{arith}
 use borrow.Author.Tests.{lt-ltb, le-ltb, lt-leb, le-leb, ltb-true, ltb-false, not-true, not-false}
@@ -61,13 +61,6 @@ module _ (p : ℕ → Bool) where
   found_by_find n u f r ran call =
       found-from n r (first_from_Range (record { start = 0; end = n }) u f r (λ x. p x ≡ true) (λ x. p x ≡ false) ran
       (λ x q k. sym (call x true q k).1) (λ x q k. let a = call x false q k in (a.0, sym a.1)))
-
-  -- the two answers of a `for` with an early return, after `i ≡ first i p`
-  pub found_here : (n i : ℕ) (r : Bool) → i < n → i ≡ first i p → r ≡ p i → r ≡ true → Some i ≡ found n p
-  found_here n i r l e q h = found_some n i l (λ k m. first_below p i k (subst (λ z. k < z) e m)) (sym q ∙ h)
-
-  pub found_nowhere : (n : ℕ) → n ≡ first n p → None ≡ found n p
-  found_nowhere n e = found_none n (λ k m. first_below p n k (subst (λ z. k < z) e m))
 
   -- what a caller learns of either answer
   pub some_first : (n i : ℕ) → Some i ≡ found n p → (i ≡ first n p) × (i < n)

@@ -1,8 +1,8 @@
 -- What the proof of the entry point cites: refusal by refusal, and where the lowering ended.
-use Rattle.std.specs.Prelude.{Ok, Err}
+use Rattle.std.specs.Prelude.{Result, Ok, Err}
 use mathlib.Core.Path.{◌≡◌, refl, ap, sym, ◌∙◌}
 use mathlib.Core.List.{List, ◌++◌}
-use mathlib.Core.Bool.{Bool, true, false}
+use mathlib.Core.Bool.{Bool, true, false, not}
 use Prim.Native.Nat.{ℕ, ◌+◌, ◌≤◌, ◌<◌}
 use native.Mathlib.Omega.{arith}
 use lib.ListN.{length, take, drop}
@@ -14,9 +14,9 @@ use Rattle.table.specs.declared.Unit.TheVariants.{Bit}
 use Rattle.table.specs.declared.Sums.{Sums}
 use Rattle.table.specs.Node.{nodes, Narrow}
 use Rattle.table.specs.Size.{size_sum, offsets_into}
-use Rattle.table.specs.Sheet.{table_fault, asks}
+use Rattle.table.specs.Sheet.{table_fault, is_clear, asks}
 use Rattle.table.specs.Ceiling.{sums_of}
-use Rattle.table.proofs.Whole.{within, fine}
+use Rattle.table.proofs.Whole.{within, fine, is-clear}
 use Rattle.table.proofs.size.Laws as size
 use Rattle.netlist.specs.Record.{records}
 use Rattle.lowering.specs.declared.lower.Done.{Done}
@@ -102,6 +102,11 @@ module _ (S : Source) (g c m z : List ℕ) (s : Sums) (e : s ≡ sums S) where
             ∙ sym
             (pick-false _ _ _ (le-ltb (records g) (sums S).gates enough)
             ∙ (pick-false _ _ _ (le-ltb (length m) (sums S).map places) ∙ pick-false _ _ _ (le-ltb (con_records c) (sums S).constraints pairs)))
+
+-- what a table's answer says when it is clear
+module _ (S : Source) (f : Result Unit Fault) (e : f ≡ table_fault S.table S.addrs S.word) (b : Bool) (k : b ≡ is_clear f) where
+  pub clear-table : b ≡ true → table_fault S.table S.addrs S.word ≡ Ok tt
+  clear-table h = sym e ∙ is-clear f (ap not (sym k ∙ h))
 
 -- the table first: 1 to 6, then 14
 module _ (S : Source) (g c m : List ℕ) where

@@ -256,9 +256,9 @@ passes l w two good =
     let none : first (records l) (faulty l) ≡ records l = first-is (faulty l) (records l) (records l) (omega arith) good (λ h. absurd (omega arith)) in
     rw (w, le-leb 2 (records l) two, none, le-ltb (records l) (records l) (omega arith))
 
-is-ok : (a : Result (Unit {0}) Refusal) → is_ok a ≡ true → a ≡ Ok tt
-is-ok (Ok tt) e = refl
-is-ok (Err r) e = absurd (false≢true e)
+is-done : (a : Result (Unit {0}) Refusal) → is_ok a ≡ true → a ≡ Ok tt
+is-done (Ok tt) e = refl
+is-done (Err r) e = absurd (false≢true e)
 
 -- what is answered where nothing is refused is what the list makes of what was given
 module _ (l v : List ℕ) where
@@ -276,5 +276,5 @@ module _ (l v : List ℕ) where
   pub done-right : (eval_gates l v).answer ≡ Ok tt → Evaluated l (records l) v (eval_gates l v).values
   unfolding eval_gates Right
   done-right =
-      by-pick Right (is_ok (list_fault l)) (eval_sound l v) (run (list_fault l) v) (λ b. right_sound (is-ok (list_fault l) b))
+      by-pick Right (is_ok (list_fault l)) (eval_sound l v) (run (list_fault l) v) (λ b. right_sound (is-done (list_fault l) b))
       (λ b e. absurd (false≢true (sym b ∙ ap is_ok e)))

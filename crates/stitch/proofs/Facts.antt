@@ -16,7 +16,7 @@ use Rattle.table.proofs.size.Laws.{stored, sum_mono, offset-end}
 use Rattle.netlist.specs.Record.{used, Room}
 use Rattle.text.specs.Plain.{Plain, plain_text}
 use Rattle.text.specs.Plain.Plain.{plain}
-use Rattle.std.specs.Prelude.{Option, Some, None, Ok, Err}
+use Rattle.std.specs.Prelude.{Option, Some, None, Ok, Err, is_ok}
 use Rattle.text.specs.declared.read.Table as reads
 use Rattle.text.specs.Read.{addr_size, node_size, answer_of, read_text, addr_list, node_table, word_width}
 use Rattle.text.specs.Read.Stored.{stored as kept}
@@ -26,7 +26,7 @@ use Rattle.text.proofs.Sizes.{room}
 use Rattle.lowering.specs.declared.lower.Done.{Done}
 use Rattle.lowering.specs.declared.lower.Refusal.{Refusal}
 use Rattle.nodes.specs.Source.{Source, source, listed, total_of}
-use Rattle.lowering.specs.Lower.{Answer, counted, Run, run, number_of, place_of, lowered, lower_all, marked}
+use Rattle.lowering.specs.Lower.{Answer, counted, Run, run, number_of, place_of, counts_of, lowered, lower_all, marked, Accepted}
 use Rattle.lowering.specs.Promise.{Promise}
 use Rattle.lowering.proofs.LowerFacts.{map-sum}
 use Rattle.lowering.proofs.Answers.{Made, made}
@@ -153,6 +153,11 @@ refused-lines : (S : Source) (g c m z : List ℕ) (a : Answer) (f : Refusal) →
 unfolding answer_lines refusal
 refused-lines S g c m z a f e = ap (answer_lines S g c m z) e
 
+-- an answer that is no refusal holds its counts
+is-done : (a : Answer) → is_ok a ≡ true → a ≡ Ok (counts_of a)
+is-done (Ok d) h = refl
+is-done (Err f) h = absurd (grind arith)
+
 done-lines : (S : Source) (g c m z : List ℕ) (a : Answer) (n k : ℕ) → a ≡ Ok (counted n k) → done_lines S n k g c m z ≡ answer_lines S g c m z a
 unfolding answer_lines
 done-lines S g c m z a n k e = sym (ap (answer_lines S g c m z) e)
@@ -189,18 +194,23 @@ module _ (S : Source) (g1 c1 m1 z0 : List ℕ) (eg : g1 ≡ gate_buffer) (ec : c
       pub used-fits : Room g b.gates × (constraint_size * b.constraints ≤ constraint_size * CONSTRAINTS) × (constraint_size * b.constraints ≤ length c) × (length g ≡ used GATES)
       used-fits = (omega (arith, of.gates), omega (arith, of.constraints, kc), omega (arith, of.constraints), kg)
 
-      pub done-asks : (k : ℕ) (mg : List ℕ) → mg ≡ take k g → lent.Done S mg (take (constraint_size * b.constraints) c) m z
+      pub done-asks : (k : ℕ) (mg : List ℕ) → mg ≡ take k g
+          → Accepted S g c m × (Room g b.gates × (constraint_size * b.constraints ≤ length c)) × lent.Done S mg (take (constraint_size * b.constraints) c) m z
       done-asks k mg e =
           let x : length mg ≤ length g = rw (e, length-take k g) (omega arith) in
           let y : length (take (constraint_size * b.constraints) c) ≡ constraint_size * b.constraints = length-take-le (constraint_size * b.constraints) c used-fits.2 in
-          record {
-            clear = of.accepted.clear;
-            gates = omega (arith, kg);
-            constraints = omega (arith, used-fits.1);
-            map = km;
-            mapped = omega (arith, of.accepted.map, map-sum S);
-            marks = lz ∙ ez;
-          }
+          (
+            record { clear = of.accepted.clear; asked = of.accepted.asked; gates = omega (arith, of.accepted.gates); map = omega (arith, of.accepted.map); constraints = omega (arith, of.accepted.constraints) },
+            (used-fits.0, used-fits.2),
+            record {
+              clear = of.accepted.clear;
+              gates = omega (arith, kg);
+              constraints = omega (arith, used-fits.1);
+              map = km;
+              mapped = omega (arith, of.accepted.map, map-sum S);
+              marks = lz ∙ ez;
+            },
+          )
 
     pub table_done : (mg : List ℕ) → mg ≡ take (used b.gates) g → (out after : List ℕ) (r : ℕ)
         → Written out (output mg (take (total_of S) m) (offset_list S) (take (nodes S.table + 1) z) (take (constraint_size * b.constraints) c)) after r → Written out (table_lines S) after r

@@ -1,3 +1,5 @@
+// Kinds are numbers and no enum: a node is six words of the lent table (the C interface), any number may stand there, and what is asked of a
+// kind is answered for every number.
 ghost use Rattle.std.specs.Prelude.{◌≡◌};
 ghost use Rattle.table.specs.Kind as kinds;
 
