@@ -22,7 +22,8 @@ pub fn constraint_at(cons: &[u32], j: usize) -> Constraint
     }
 }
 
-// The list that is being made: a lent buffer, and how many constraints of it are in use.
+// The list that is being made: a lent buffer, and how many constraints of it are in use. It has a type beside `GateList`: the numbers of a
+// record, how one is written and what is then known differ, and what is left alike is these two fields.
 #[derive(Drop)]
 pub struct ConstraintList<'a> {
     pub pairs: &'a mut [u32],

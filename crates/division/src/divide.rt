@@ -10,7 +10,8 @@ ghost use Rattle.division.specs.Divide.{divided_of, div_words, free_word, by_zer
 use crate::lists::Lists;
 use crate::{check, pair, zero};
 
-// What is asked: the quotient, or the remainder, of two words of w bits, for a node.
+// What is asked: the quotient, or the remainder, of two words of w bits, for a node. Which of the two is a bool, as in the definitions
+// (`chosen`, `answer_of`) and in the theorems on them.
 #[derive(Clone, Copy)]
 pub struct Division<'a> {
     pub quotient: bool,

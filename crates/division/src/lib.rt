@@ -1,4 +1,4 @@
-// Unsigned division: quotient and remainder as free gates, and the constraints that they obey.
+// Unsigned division: quotient and remainder as free gates, and the constraints that they obey. A width stands beside its slices, as in `words`.
 #![tactic(auto)]
 
 pub mod check;

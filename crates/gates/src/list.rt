@@ -7,6 +7,7 @@ use netlist::record;
 use netlist::record::Gate;
 
 // A lent buffer, and how many records of it are made: the next gate goes there. What rides along with the gates that are made belongs here.
+// The clause `same` of each function that makes gates says that the list still lies in that buffer: what the buffer holds follows from it.
 #[derive(Drop)]
 pub struct GateList<'a> {
     pub records: &'a mut [u32],

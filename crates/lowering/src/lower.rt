@@ -64,7 +64,7 @@ impl OnSheet for Refusal {
     }
 }
 
-// With room for the sums.
+// With room for the sums. (Table and buffers stay parameters of their own: C lends them one by one.)
 fn lower_room(
     table: &[u64],
     addrs: &[u64],

@@ -47,7 +47,8 @@ fn roots(laid: &Laid, lists: &mut Lists, map: &mut [u32], seen: &mut [u8])
     }
 }
 
-// The same of two lists that are lent apart: they are moved into one and back.
+// The same of two lists that are lent apart: they are moved into one and back. (With `Lists` made by lower_roots itself the proof of what its
+// two buffers hold in the end does not close: tried.)
 fn roots_of(
     laid: &Laid,
     gates: &mut GateList,

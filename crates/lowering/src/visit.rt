@@ -1,4 +1,4 @@
-// The visits: a node after what it leans on.
+// The visits: a node after what it leans on. Marks are bytes and not bool: `lower_marked` promises for any bytes that are lent.
 ghost use Rattle.std.specs.Prelude.{◌≤◌};
 ghost use Rattle.table.specs.Node.{nodes};
 ghost use Rattle.visits.specs.Claims.{Is};

@@ -1,4 +1,4 @@
-// The own step of a node: its gates and bits, kind by kind.
+// The own step of a node: its gates and bits, kind by kind. A width stands beside its slices, as in `words`.
 #![tactic(auto)]
 
 pub mod choose; // an ite with an unknown condition

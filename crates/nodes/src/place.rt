@@ -9,7 +9,8 @@ ghost use Rattle.nodes.specs.Asked.{place_of};
 use table::Node;
 use table::field::width_at;
 
-// A table, its listed addresses and its word width, and where each node's bits begin.
+// A table, its listed addresses and its word width, and where each node's bits begin. What is asked of it speaks of the map and the lists
+// that are made too, so it stands in the contracts (`Stands`, `Makes`, `Owns`, `Goes`).
 #[derive(Clone, Copy)]
 pub struct Laid<'a> {
     pub table: &'a [u64],
@@ -27,7 +28,8 @@ pub struct Here<'a> {
     ghost is: { node ≡ node_at laid.table.now k },
 }
 
-// So many words, each so wide, from an offset on.
+// So many words, each so wide, from an offset on. The kinds that make word after word have a loop each: one function over a closure
+// would say each kind's law once more, as the clause of its closure, for the two lines of a loop.
 #[derive(Clone, Copy)]
 pub struct Place {
     pub off: usize,

@@ -122,7 +122,7 @@ fn constraint_ceiling(node: Node) -> u64
     0
 }
 
-// The constraints of node i + 1.
+// The constraints of node i + 1. Narrow speaks of a lent table's numbers, so it stands in each contract.
 #[tactic(auto, unfolding(crate::specs::Ceiling::node_constraints))]
 fn node_constraints(table: &[u64], i: usize) -> u64
     requires { (i < 512) × Narrow table.now }

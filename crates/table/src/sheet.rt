@@ -163,7 +163,7 @@ fn nodes_fault(table: &[u64], w: u64) -> Result<(), Fault>
     Ok(())
 }
 
-// The first of 1 to 6 that applies to a table, its listed addresses and its word width.
+// The first of 1 to 6 that applies to a table, its listed addresses and its word width: three parameters here and above, as C lends them.
 #[tactic(auto, unfolding(crate::specs::Sheet::table_fault, loops::specs::Loop::pick))]
 pub fn check_table(table: &[u64], addrs: &[u64], w: u64) -> Result<(), Fault>
     ensures { result ≡ table_fault table.now addrs.now w }

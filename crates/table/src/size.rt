@@ -46,7 +46,8 @@ impl Listing {
     }
 }
 
-// Where each node's places begin, at its number; after the last, where they end. The end is the answer too.
+// Where each node's places begin, at its number; after the last, where they end. The end is the answer too. (n and w as the callers have
+// them: a `Listing` would be made for this call alone.)
 pub fn offsets(unit: Unit, table: &[u64], n: u64, w: u64, out: &mut [usize]) -> usize
     requires n_bound { (n ≤ 64) × (w ≤ 64) × (nodes table.now ≤ 512) × Narrow table.now }
     requires table_in_bounds { nodes table.now + 2 ≤ length out.old }

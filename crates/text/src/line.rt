@@ -5,7 +5,7 @@ ghost use Rattle.text.specs.NodeLine.{numbers_of, node_fields, node_line};
 
 use crate::field::{kind_field, last_number, name_field, number_field};
 
-// A node's record.
+// A node's record: text leans on no table, so it has a type of its own.
 #[derive(Clone, Copy)]
 pub struct Node {
     pub kind: u64,

@@ -6,7 +6,7 @@ ghost use Rattle.text.specs.Writer.{so_far};
 ghost use Rattle.text.specs.Number.{decimal};
 ghost use Rattle.text.specs.Line.{numbers, line, rest};
 
-// A lent buffer, and the place of its next byte.
+// A lent buffer, and the place of its next byte. `same` says that the writer still has that buffer.
 #[derive(Drop)]
 pub struct Writer<'a> {
     pub out: &'a mut [u8],

@@ -89,7 +89,8 @@ fn constraint_lines(lines: &mut Writer, constraints: &[u32])
 }
 
 // All that is printed of a lowered table, from the buffer's first byte on; answers how many bytes it is. `gates` and `constraints` are
-// the used parts; node i is reached where marks[i] is not 0, and its bits stand in the map from offsets[i] up to offsets[i + 1].
+// the used parts; node i is reached where marks[i] is not 0, and its bits stand in the map from offsets[i] up to offsets[i + 1]. (Each list
+// lies in a buffer of its own, as the lowering fills it.)
 pub fn write(
     gates: &[u32],
     map: &[u32],

@@ -12,7 +12,7 @@ pub mod eval; // the evaluator
 
 use table::Fault;
 
-// Why the word evaluator works nothing out.
+// Why the word evaluator works nothing out. (The gate evaluator has no table, and its own refusals.)
 #[derive(Clone, Copy, Debug, PartialEq, Eq)]
 pub enum Refusal {
     Table(Fault),
