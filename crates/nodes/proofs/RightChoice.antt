@@ -93,7 +93,7 @@ module _ {S : Source} {x : List ℕ} (v : Evaluated S x) {k : ℕ} (is : Is (rec
         (same-made v is m i t lt 0 refl y iy (rw (same-words S y k same) lt) (omega (arith, same-wide S y k same))
         (λ h ce before o.
         let r : Right (recipe S) (meaning S x) h t.map (second_of S m k) = o.second (λ z. omega (arith, iy.low)) in
-        (rw q at r, v.made k i is lt (rw e) ∙ (at-ite d (width_of S.table d.a) x oa ob oc _ i e ∙ says h ce before))))
+        (rw q at r, v.made k i is lt (rw e) ∙ (at-ite S.addrs d (width_of S.table d.a) x oa ob oc _ i e ∙ says h ce before))))
 
     by_condition : (c : ℕ) → condition_of S m k ≡ c → c < 2 → OwnWord S x k m i t (share_word S 0 (second_of S m k) i t)
     by_condition zero q l =
@@ -136,4 +136,4 @@ module _ {S : Source} {x : List ℕ} (v : Evaluated S x) {k : ℕ} (is : Is (rec
         num-choose h (h c) (each_bit (op.Choose c) B C (wide_of S k) (fresh t.net)).out B C (wide_of S k) (L.value h ce.obeys)
         ∙ (ap₂ (λ (a b : ℕ). pick (h c) a b) nb nc
         ∙ (sym (ite-pick x oa ob oc i (h c) (condition-says m t.map h o))
-        ∙ sym (at-ite d (width_of S.table d.a) x oa ob oc _ i e))))
+        ∙ sym (at-ite S.addrs d (width_of S.table d.a) x oa ob oc _ i e))))

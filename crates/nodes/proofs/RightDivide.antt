@@ -126,13 +126,13 @@ module _ {S : Source} {x : List ℕ} (v : Evaluated S x) {k : ℕ} (h : divides 
   divu-value : d.kind ≡ DIVU → slot_of S x k 0 ≡ div_word d.width (dividend S x k) (slot_of S x d.b 0)
   divu-value e =
       v.made k 0 is (omega (arith, words-one)) no-given
-      ∙ (at-divu d (width_of S.table d.a) x (slot_from S d.a) (slot_from S d.b) (slot_from S d.c) _ 0 e
+      ∙ (at-divu S.addrs d (width_of S.table d.a) x (slot_from S d.a) (slot_from S d.b) (slot_from S d.c) _ 0 e
       ∙ sym (ap₂ (div_word d.width) (slot-word S x d.a) (slot-word S x d.b)))
 
   rem_value : d.kind ≡ REM → slot_of S x k 0 ≡ rem_word (dividend S x k) (slot_of S x d.b 0)
   rem_value e =
       v.made k 0 is (omega (arith, words-one)) no-given
-      ∙ (at-rem d (width_of S.table d.a) x (slot_from S d.a) (slot_from S d.b) (slot_from S d.c) _ 0 e
+      ∙ (at-rem S.addrs d (width_of S.table d.a) x (slot_from S d.a) (slot_from S d.b) (slot_from S d.c) _ 0 e
       ∙ sym (ap₂ rem_word (slot-word S x d.a) (slot-word S x d.b)))
 
   slot_is : slot_of S x k 0 ≡ answer_of quotient w (dividend S x k) (slot_of S x d.b 0)

@@ -72,7 +72,7 @@ module _ {S : Source} {x : List ℕ} (v : Evaluated S x) {k : ℕ} (is : Is (rec
       (λ a ce o.
       let p = digits.put-law d.imm d.width blank (omega (arith, blank-long, (sound v is).narrow)) in
       rw (word_wide S k h) (num-digits t.net a (put_digits d.imm d.width blank) d.width d.imm ce.obeys g p.there (digit_lt d.imm))
-      ∙ sym (at-const d (width_of S.table d.a) x oa ob oc _ i e)))
+      ∙ sym (at-const S.addrs d (width_of S.table d.a) x oa ob oc _ i e)))
 
   module _ (o : Op) (e : d.kind ≡ op_kind o) (z : OpSort o d.width (width_of S.table d.a) (width_of S.table d.b)) where
     wide-a : w ≡ width_of S.table d.a
@@ -103,4 +103,4 @@ module _ {S : Source} {x : List ℕ} (v : Evaluated S x) {k : ℕ} (is : Is (rec
         (λ a ce r.
         rw wide-k (L.value a ce.obeys
         ∙ (op_same o w (first a r) (second a r)
-        ∙ sym (at_op d (width_of S.table d.a) x oa ob oc _ i o e ∙ op-wide d.width w (get_or x oa 0) (get_or x ob 0) o (λ h. op-even o z.wide h ∙ sym wide-a))))))
+        ∙ sym (at_op S.addrs d (width_of S.table d.a) x oa ob oc _ i o e ∙ op-wide d.width w (get_or x oa 0) (get_or x ob 0) o (λ h. op-even o z.wide h ∙ sym wide-a))))))

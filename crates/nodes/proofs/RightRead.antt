@@ -7,8 +7,8 @@ use Prim.Native.Nat.{ℕ, ◌+◌, ◌-◌, ◌*◌, ◌≤◌, ◌<◌}
 use native.Mathlib.Omega.{arith}
 use lib.ListN.{length, get_or, drop}
 use lib.Seq.{get_or-take, get_or-drop}
-use borrow.Author.Tests.{eqb-true, eqb-false}
-use Rattle.loops.proofs.Loop.{first-true, first_below}
+use borrow.Author.Tests.{eqb-true, eqb-false, lt-ltb}
+use Rattle.loops.proofs.Loop.{pick_true, first-true, first_below}
 use Rattle.loops.proofs.Search.{some_first, none_first}
 use Rattle.table.specs.declared.Node.{Node}
 use Rattle.table.specs.Kind.{ITE, READ, uses_a, uses_b}
@@ -91,7 +91,9 @@ module _ {S : Source} {x : List ℕ} (v : Evaluated S x) {k : ℕ} (is : Is (rec
   unfolding read_word read_value
   read_made reads e hw ha hb m i t lt =
       word_made v is (listed S * (4 * S.word - 1)) lt (rw e) L.ext
-      (λ h ce o. ap (λ z. num h out z) wk ∙ (said h ce o place refl ∙ sym (at_read d (width_of S.table d.a) x oa ob oc _ i e ∙ ap (read_value x oa) (place-access S.addrs d x ob (rw e)))))
+      (λ h ce o.
+      ap (λ z. num h out z) wk
+      ∙ (said h ce o place refl ∙ sym (at_read S.addrs d (width_of S.table d.a) x oa ob oc _ i e ∙ ap (read_value S.addrs x oa) (place-access S.addrs d x ob (rw e)))))
     where
       mem : List ℕ
       mem = all_at S t.map d.a
@@ -118,11 +120,11 @@ module _ {S : Source} {x : List ℕ} (v : Evaluated S x) {k : ℕ} (is : Is (rec
       na = memory-words S d.a ha
 
       said : (h : Assign) → Considered (meaning S x) (read_words (listed S) S.word S.addrs mem adr (fresh t.net)).net h → Operable S x k m h t.map → (p : Option ℕ) → p ≡ place
-          → num h out S.word ≡ read_value x oa p
+          → num h out S.word ≡ read_value S.addrs x oa p
       said h ce o (Some p) ep =
           let z = at_place S.addrs (get_or x ob 0) p ep in
           let q : get_or S.addrs p 0 ≡ num h adr S.word = z.1 ∙ sym (address-says (ap uses_b e) (λ q. omega arith) hb m t.map h o) in
           let r : word_num h mem p (wide_of S d.a) ≡ slot_of S x d.a p =
           part-num S t.map d.a ua p (rw na z.0) h ∙ right-says v (a-is v is ua) {i = p} (rw na z.0) h t.map (a-right v is m t.map h o ua) in
-          L.hit h ce.obeys p z.0 q ∙ (rw wa at r)
+          L.hit h ce.obeys p z.0 q ∙ ((rw wa at r) ∙ sym (pick_true _ _ _ (lt-ltb p (listed S) z.0)))
       said h ce o None ep = L.miss h ce.obeys (λ j l q. no_place S.addrs (get_or x ob 0) ep j l (q ∙ address-says (ap uses_b e) (λ q. omega arith) hb m t.map h o))

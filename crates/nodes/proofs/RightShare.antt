@@ -106,7 +106,7 @@ module _ {S : Source} {x : List ℕ} (v : Evaluated S x) {k : ℕ} (is : Is (rec
   pub state-made : d.kind ≡ STATE → given d ≡ false → 1 ≤ d.a → width_of S.table d.a ≡ d.width → OwnWord S x k m i t (share_word S (above_of S m k) d.a i t)
   state-made e g u same =
       same-made (above_of S m k) (none_above (λ z. omega arith)) d.a (a-is v is u) (rw (same-words S d.a k same) lt) (omega (arith, same-wide S d.a k same))
-      (λ a ce before o. (a-right v is m t.map a o u, v.made k i is lt g ∙ at-state d (width_of S.table d.a) x oa ob oc _ i e))
+      (λ a ce before o. (a-right v is m t.map a o u, v.made k i is lt g ∙ at-state S.addrs d (width_of S.table d.a) x oa ob oc _ i e))
 
   -- a word of a word
   module _ (u : uses_a d.kind ≡ true) (h : 1 ≤ d.width) (ha : 1 ≤ width_of S.table d.a) (le : width_of S.table d.a ≤ d.width) where
@@ -147,7 +147,7 @@ module _ {S : Source} {x : List ℕ} (v : Evaluated S x) {k : ℕ} (is : Is (rec
   pub bad-made : d.kind ≡ BAD → d.width ≡ 1 → width_of S.table d.a ≡ 1 → OwnWord S x k m i t (share_word S (above_of S m k) d.a i t)
   bad-made e h ha =
       one-made (ap uses_a e) (omega arith) (omega arith) (omega arith) (λ z. omega arith)
-      (v.made k i is lt (rw e) ∙ at-bad d (width_of S.table d.a) x oa ob oc _ i e)
+      (v.made k i is lt (rw e) ∙ at-bad S.addrs d (width_of S.table d.a) x oa ob oc _ i e)
 
   -- the two extensions
   module _ (z : Extended d.width (width_of S.table d.a)) where
@@ -157,11 +157,11 @@ module _ {S : Source} {x : List ℕ} (v : Evaluated S x) {k : ℕ} (is : Is (rec
     pub ext-made : d.kind ≡ EXT → OwnWord S x k m i t (share_word S (above_of S m k) d.a i t)
     ext-made e =
         one-made (ap uses_a e) word z.word z.wide (λ q. omega arith)
-        (v.made k i is lt (rw e) ∙ at-ext d (width_of S.table d.a) x oa ob oc _ i e)
+        (v.made k i is lt (rw e) ∙ at-ext S.addrs d (width_of S.table d.a) x oa ob oc _ i e)
 
     pub sext-made : d.kind ≡ SEXT → OwnWord S x k m i t (share_word S (above_of S m k) d.a i t)
     sext-made e =
         signed-made (ap uses_a e) word z.word z.wide e
         (v.made k i is lt (rw e)
-        ∙ (at-sext d (width_of S.table d.a) x oa ob oc _ i e
+        ∙ (at-sext S.addrs d (width_of S.table d.a) x oa ob oc _ i e
         ∙ ap₂ (λ (p q : ℕ). sext_word p q (get_or x oa 0)) (sym (word_wide S d.a z.word)) (sym (word_wide S k word))))

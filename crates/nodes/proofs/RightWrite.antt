@@ -162,7 +162,7 @@ module _ {S : Source} {x : List ℕ} (v : Evaluated S x) {k : ℕ} (writes : Wri
   written : (i : ℕ) → i < words_of S k → slot_of S x k i ≡ pick (eqb (get_or S.addrs i 0) (get_or x ob 0)) (get_or x oc 0) (slot_of S x (node_of S k).a i)
   written i lt =
       v.made k i is lt (rw e)
-      ∙ (at-write (node_of S k) (width_of S.table (node_of S k).a) x oa ob oc _ i e
+      ∙ (at-write S.addrs (node_of S k) (width_of S.table (node_of S k).a) x oa ob oc _ i e
       ∙ (ap (λ p. write_value x oa p (get_or x oc 0) i) (place-access S.addrs (node_of S k) x ob (rw e))
       ∙ place_is S v.clear x oa (get_or x oc 0) (get_or x ob 0) i (rw nk at lt) _ refl))
 

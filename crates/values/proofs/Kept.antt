@@ -21,11 +21,11 @@ record Within (o m : ℕ) (x y : List ℕ) : Type 0 where
   pub below : (k : ℕ) → k < o → get_or y k 0 ≡ get_or x k 0
   pub above : (k : ℕ) → o + m ≤ k → get_or y k 0 ≡ get_or x k 0
 
-module _ (d : Node) (v o a b c : ℕ) (p : Option ℕ) (x : List ℕ) where
-  filled : (m : ℕ) → Within o m x (iter m (slot_step d v o a b c p) x)
+module _ (l : List ℕ) (d : Node) (v o a b c : ℕ) (p : Option ℕ) (x : List ℕ) where
+  filled : (m : ℕ) → Within o m x (iter m (slot_step l d v o a b c p) x)
   unfolding slot_step
   filled m =
-      iter-inv (λ i y. Within o i x y) (slot_step d v o a b c p) x m
+      iter-inv (λ i y. Within o i x y) (slot_step l d v o a b c p) x m
       (record { long = refl; below = λ k h. refl; above = λ k h. refl })
       (λ i y h w.
       record {
@@ -36,15 +36,15 @@ module _ (d : Node) (v o a b c : ℕ) (p : Option ℕ) (x : List ℕ) where
 
   -- each of the m slots is made of what stood there when its turn came
   at-step : (m j : ℕ) → j < suc m → o + suc m ≤ length x
-      → (j < m → get_or (iter m (slot_step d v o a b c p) x) (o + j) 0 ≡ slot_at d v (iter j (slot_step d v o a b c p) x) a b c p j) → Dec (j < m)
-      → get_or (iter (suc m) (slot_step d v o a b c p) x) (o + j) 0 ≡ slot_at d v (iter j (slot_step d v o a b c p) x) a b c p j
+      → (j < m → get_or (iter m (slot_step l d v o a b c p) x) (o + j) 0 ≡ slot_at l d v (iter j (slot_step l d v o a b c p) x) a b c p j) → Dec (j < m)
+      → get_or (iter (suc m) (slot_step l d v o a b c p) x) (o + j) 0 ≡ slot_at l d v (iter j (slot_step l d v o a b c p) x) a b c p j
   unfolding iter slot_step
-  at-step m j h r ih (yes q) = get_or-set_other (iter m (slot_step d v o a b c p) x) (o + m) (o + j) _ 0 (omega arith) ∙ ih q
+  at-step m j h r ih (yes q) = get_or-set_other (iter m (slot_step l d v o a b c p) x) (o + m) (o + j) _ 0 (omega arith) ∙ ih q
   at-step m j h r ih (no q) =
       let e : j ≡ m = omega arith in
-      rw e (get_or-set_same (iter m (slot_step d v o a b c p) x) (o + m) _ 0 (omega (arith, (filled m).long)))
+      rw e (get_or-set_same (iter m (slot_step l d v o a b c p) x) (o + m) _ 0 (omega (arith, (filled m).long)))
 
-  fill-at : (m j : ℕ) → j < m → o + m ≤ length x → get_or (iter m (slot_step d v o a b c p) x) (o + j) 0 ≡ slot_at d v (iter j (slot_step d v o a b c p) x) a b c p j
+  fill-at : (m j : ℕ) → j < m → o + m ≤ length x → get_or (iter m (slot_step l d v o a b c p) x) (o + j) 0 ≡ slot_at l d v (iter j (slot_step l d v o a b c p) x) a b c p j
   fill-at zero j h r = absurd (omega arith)
   fill-at (suc m) j h r = at-step m j h r (λ q. fill-at m j q (omega arith)) (dec_lt j m)
 
@@ -54,7 +54,7 @@ module _ (t l : List ℕ) where
 
   -- node i + 1, whose address stands at place p
   step : ℕ → Option ℕ → ℕ → List ℕ → List ℕ
-  step i p = slot_step (node_at t (i + 1)) (width_of t (a_of t (i + 1))) (offset t l (i + 1)) (offset t l (a_of t (i + 1))) (offset t l (b_of t (i + 1))) (offset t l (c_of t (i + 1))) p
+  step i p = slot_step l (node_at t (i + 1)) (width_of t (a_of t (i + 1))) (offset t l (i + 1)) (offset t l (a_of t (i + 1))) (offset t l (b_of t (i + 1))) (offset t l (c_of t (i + 1))) p
 
   node-given : (i : ℕ) (x : List ℕ) → node_given t i ≡ true → node_step t l i x ≡ x
   unfolding node_step
@@ -67,7 +67,7 @@ module _ (t l : List ℕ) where
   node-within : (i : ℕ) (x : List ℕ) (b : Bool) → node_given t i ≡ b → Within (offset t l (i + 1)) (slots t l i) x (node_step t l i x)
   unfolding step
   node-within i x true e = rw (node-given i x e) (record { long = refl; below = λ k h. refl; above = λ k h. refl })
-  node-within i x false e = rw (node_made i x e) (filled (node_at t (i + 1)) (width_of t (a_of t (i + 1))) (offset t l (i + 1)) (offset t l (a_of t (i + 1))) (offset t l (b_of t (i + 1))) (offset t l (c_of t (i + 1))) (place i x) x (slots t l i))
+  node-within i x false e = rw (node_made i x e) (filled l (node_at t (i + 1)) _ (offset t l (i + 1)) _ _ _ (place i x) x (slots t l i))
 
   module _ (v : List ℕ) where
     other : (i j k : ℕ) (x : List ℕ) → j < slots t l i → node_given t i ≡ true → Dec (i < k) → Dec (k < i)
@@ -117,7 +117,8 @@ module _ (t l : List ℕ) where
       pub agrees : Agrees i y
       pub agreed : Agrees i z
       pub made : get_or (iter (nodes t) (node_step t l) v) (offset t l (i + 1) + j) 0
-          ≡ slot_at (node_at t (i + 1)) (width_of t (a_of t (i + 1))) y (offset t l (a_of t (i + 1))) (offset t l (b_of t (i + 1))) (offset t l (c_of t (i + 1))) (place_at l (node_at t (i + 1)) z (offset t l (b_of t (i + 1)))) j
+          ≡ slot_at l (node_at t (i + 1)) (width_of t (a_of t (i + 1))) y (offset t l (a_of t (i + 1))) (offset t l (b_of t (i + 1))) (offset t l (c_of t (i + 1)))
+          (place_at l (node_at t (i + 1)) z (offset t l (b_of t (i + 1)))) j
 
     pub worked : (i j : ℕ) → i < nodes t → j < slots t l i → node_given t i ≡ false → total t l ≤ length v → Worked i j
     unfolding step place
@@ -125,11 +126,11 @@ module _ (t l : List ℕ) where
         record {
           y = iter j (step i (place i y0)) y0;
           z = y0;
-          agrees = λ k p. (filled (node_at t (i + 1)) _ o _ _ _ (place i y0) y0 j).below k p ∙ sym (later i (nodes t) k (omega arith) p);
+          agrees = λ k p. (filled l (node_at t (i + 1)) _ o _ _ _ (place i y0) y0 j).below k p ∙ sym (later i (nodes t) k (omega arith) p);
           agreed = λ k p. sym (later i (nodes t) k (omega arith) p);
           made =
               later (suc i) (nodes t) (o + j) h (omega (arith, next))
-              ∙ (ap (λ x. get_or x (o + j) 0) (one_more i g) ∙ fill-at (node_at t (i + 1)) _ o _ _ _ (place i y0) y0 (slots t l i) j q (omega (arith, size_room Slot t (length l) 0 i h, long-at i)));
+              ∙ (ap (λ x. get_or x (o + j) 0) (one_more i g) ∙ fill-at l (node_at t (i + 1)) _ o _ _ _ (place i y0) y0 (slots t l i) j q (omega (arith, size_room Slot t (length l) 0 i h, long-at i)));
         }
       where
         y0 : List ℕ

@@ -1,6 +1,7 @@
 -- A node's value looks only at the slots of lower nodes, so the final values are what each node's kind makes of the final values themselves.
-use Rattle.std.proofs.Common.{◌≡◌, refl, Ok, Option, Some, None, ℕ, ◌+◌, ◌-◌, ◌<◌, ◌≤◌, true, false, List, length, get_or, sym, ap, ◌∙◌, ap₂, inl, inr, arith}
-use Rattle.loops.specs.Loop.{iter}
+use Rattle.std.proofs.Common.{◌≡◌, refl, Ok, Option, Some, None, ℕ, ◌+◌, ◌-◌, ◌<◌, ◌≤◌, true, false, List, length, get_or, sym, ap, ◌∙◌, ap₂, inl, inr, arith, lt-ltb, le-ltb}
+use native.Mathlib.Decide.{dec_lt}
+use Rattle.loops.specs.Loop.{pick, iter}
 use Rattle.table.specs.declared.Node.{Node}
 use Rattle.table.specs.Kind.{uses_a, uses_b, uses_c, accesses}
 use Rattle.table.specs.Node.{nodes, node_at, width_of, a_of, b_of, c_of}
@@ -10,7 +11,7 @@ use Rattle.table.proofs.Whole.{Sound, Rule, is-const, is-input, is_state, is-op,
 use Rattle.values.specs.Value.{listed, div_word, rem_word, sext_word, read_value, write_value, ite_value, place_at, slot_at}
 use Rattle.values.specs.Eval.{slots, offset, node_given, node_step, eval_words}
 use Rattle.values.specs.Frame.{Valued}
-use Rattle.values.proofs.ByKind.{at-const, at-state, at_op, at-bad, at-ext, at-ite, at-divu, at-rem, at_read, at-write, at-sext, place-access, place_in}
+use Rattle.values.proofs.ByKind.{at-const, at-state, at_op, at-bad, at-ext, at-ite, at-divu, at-rem, at_read, at-write, at-sext, place-access}
 use Rattle.values.proofs.Seen.{no-input, initial, reach, see-word, see-memory, see-same}
 use Rattle.values.proofs.Kept.{kept, worked, finished}
 
@@ -58,14 +59,14 @@ module _ (t l : List ℕ) (w i : ℕ) (x y : List ℕ) (j : ℕ) (pos : 1 ≤ w)
   same p h g z = see-same t l w i Alike all p j h g z inside
 
   Local : Type 0
-  Local = slot_at d va y oa ob oc pz j ≡ slot_at d va x oa ob oc px j
+  Local = slot_at l d va y oa ob oc pz j ≡ slot_at l d va x oa ob oc px j
 
   -- a kind that takes a word, and one that takes two
-  one : (f : ℕ → ℕ) → slot_at d va y oa ob oc pz j ≡ f (get_or y oa 0) → slot_at d va x oa ob oc px j ≡ f (get_or x oa 0) → uses_a d.kind ≡ true → 1 ≤ width_of t (a_of t (i + 1)) → Local
+  one : (f : ℕ → ℕ) → slot_at l d va y oa ob oc pz j ≡ f (get_or y oa 0) → slot_at l d va x oa ob oc px j ≡ f (get_or x oa 0) → uses_a d.kind ≡ true → 1 ≤ width_of t (a_of t (i + 1)) → Local
   unfolding Local
   one f p q u h = p ∙ (ap f (word (a_of t (i + 1)) (s.operands.a-used u) s.operands.a h) ∙ sym q)
 
-  two : (f : ℕ → ℕ → ℕ) → slot_at d va y oa ob oc pz j ≡ f (get_or y oa 0) (get_or y ob 0) → slot_at d va x oa ob oc px j ≡ f (get_or x oa 0) (get_or x ob 0)
+  two : (f : ℕ → ℕ → ℕ) → slot_at l d va y oa ob oc pz j ≡ f (get_or y oa 0) (get_or y ob 0) → slot_at l d va x oa ob oc px j ≡ f (get_or x oa 0) (get_or x ob 0)
       → uses_a d.kind ≡ true → uses_b d.kind ≡ true → 1 ≤ width_of t (a_of t (i + 1)) → 1 ≤ width_of t (b_of t (i + 1)) → Local
   unfolding Local
   two f p q u m h k =
@@ -77,9 +78,13 @@ module _ (t l : List ℕ) (w i : ℕ) (x y : List ℕ) (j : ℕ) (pos : 1 ≤ w)
   unfolding ite_value
   ite-alike p q r = rw (p, q, r)
 
-  read_alike : (p : Option ℕ) → ((m : ℕ) → Some m ≡ p → get_or y (oa + m) 0 ≡ get_or x (oa + m) 0) → read_value y oa p ≡ read_value x oa p
-  unfolding read_value
-  read_alike (Some m) h = h m refl
+  read_alike : (p : Option ℕ) → ((m : ℕ) → m < length l → get_or y (oa + m) 0 ≡ get_or x (oa + m) 0) → read_value l y oa p ≡ read_value l x oa p
+  unfolding read_value pick
+  read_alike (Some m) h = go (dec_lt m (length l))
+    where
+      go : Dec (m < length l) → read_value l y oa (Some m) ≡ read_value l x oa (Some m)
+      go (yes k) = rw (lt-ltb m (length l) k) (h m k)
+      go (no k) = rw (le-ltb m (length l) (omega arith))
   read_alike None h = refl
 
   write-alike : (p : Option ℕ) → get_or y oc 0 ≡ get_or x oc 0 → get_or y (oa + j) 0 ≡ get_or x (oa + j) 0 → write_value y oa p (get_or y oc 0) j ≡ write_value x oa p (get_or x oc 0) j
@@ -96,42 +101,42 @@ module _ (t l : List ℕ) (w i : ℕ) (x y : List ℕ) (j : ℕ) (pos : 1 ≤ w)
 
   by-rule : Rule w d (width_of t (a_of t (i + 1))) (width_of t (b_of t (i + 1))) (width_of t (c_of t (i + 1))) → Local
   unfolding Local
-  by-rule (is-const e h m) = at-const d va y oa ob oc pz j e ∙ sym (at-const d va x oa ob oc px j e)
+  by-rule (is-const e h m) = at-const l d va y oa ob oc pz j e ∙ sym (at-const l d va x oa ob oc px j e)
   by-rule (is-input e) = absurd (no-input d e free)
   by-rule (is_state e (inl z)) = absurd (omega (arith, initial d e free))
-  by-rule (is_state e (inr z)) = at-state d va y oa ob oc pz j e ∙ (same (a_of t (i + 1)) (initial d e free) s.operands.a z ∙ sym (at-state d va x oa ob oc px j e))
+  by-rule (is_state e (inr z)) = at-state l d va y oa ob oc pz j e ∙ (same (a_of t (i + 1)) (initial d e free) s.operands.a z ∙ sym (at-state l d va x oa ob oc px j e))
   by-rule (is-op o e z) =
-      at_op d va y oa ob oc pz j o e
+      at_op l d va y oa ob oc pz j o e
       ∙ (op_same o d.width
       (word (a_of t (i + 1)) (s.operands.a-used (ap uses_a e ∙ op-a o)) s.operands.a z.word)
       (λ u. word (b_of t (i + 1)) (s.operands.b-used (ap uses_b e ∙ (op-b o ∙ u))) s.operands.b (omega (arith, z.word, z.same u)))
-      ∙ sym (at_op d va x oa ob oc px j o e))
-  by-rule (is-bad e h z) = one (λ v. v) (at-bad d va y oa ob oc pz j e) (at-bad d va x oa ob oc px j e) (ap uses_a e) (omega arith)
-  by-rule (is-ext e z) = one (λ v. v) (at-ext d va y oa ob oc pz j e) (at-ext d va x oa ob oc px j e) (ap uses_a e) z.word
-  by-rule (is-sext e z) = one (sext_word va d.width) (at-sext d va y oa ob oc pz j e) (at-sext d va x oa ob oc px j e) (ap uses_a e) z.word
-  by-rule (is-divu e z) = two (div_word d.width) (at-divu d va y oa ob oc pz j e) (at-divu d va x oa ob oc px j e) (ap uses_a e) (ap uses_b e) (omega arith) (omega arith)
-  by-rule (is-rem e z) = two rem_word (at-rem d va y oa ob oc pz j e) (at-rem d va x oa ob oc px j e) (ap uses_a e) (ap uses_b e) (omega arith) (omega arith)
+      ∙ sym (at_op l d va x oa ob oc px j o e))
+  by-rule (is-bad e h z) = one (λ v. v) (at-bad l d va y oa ob oc pz j e) (at-bad l d va x oa ob oc px j e) (ap uses_a e) (omega arith)
+  by-rule (is-ext e z) = one (λ v. v) (at-ext l d va y oa ob oc pz j e) (at-ext l d va x oa ob oc px j e) (ap uses_a e) z.word
+  by-rule (is-sext e z) = one (sext_word va d.width) (at-sext l d va y oa ob oc pz j e) (at-sext l d va x oa ob oc px j e) (ap uses_a e) z.word
+  by-rule (is-divu e z) = two (div_word d.width) (at-divu l d va y oa ob oc pz j e) (at-divu l d va x oa ob oc px j e) (ap uses_a e) (ap uses_b e) (omega arith) (omega arith)
+  by-rule (is-rem e z) = two rem_word (at-rem l d va y oa ob oc pz j e) (at-rem l d va x oa ob oc px j e) (ap uses_a e) (ap uses_b e) (omega arith) (omega arith)
   by-rule (is-ite e p q r) =
-      at-ite d va y oa ob oc pz j e
+      at-ite l d va y oa ob oc pz j e
       ∙ (ite-alike
       (word (a_of t (i + 1)) (s.operands.a-used (ap uses_a e)) s.operands.a (omega arith))
       (same (b_of t (i + 1)) (s.operands.b-used (ap uses_b e)) s.operands.b q)
       (same (c_of t (i + 1)) (s.operands.c-used (ap uses_c e)) s.operands.c r)
-      ∙ sym (at-ite d va x oa ob oc px j e))
+      ∙ sym (at-ite l d va x oa ob oc px j e))
   by-rule (is_read e h p q) =
-      at_read d va y oa ob oc pz j e
-      ∙ (ap (read_value y oa) (place-alike (ap accesses e) (ap uses_b e) (omega arith))
-      ∙ (read_alike px (λ m h. memory (a_of t (i + 1)) m (s.operands.a-used (ap uses_a e)) s.operands.a p (place_in l d x ob m h))
-      ∙ sym (at_read d va x oa ob oc px j e)))
+      at_read l d va y oa ob oc pz j e
+      ∙ (ap (read_value l y oa) (place-alike (ap accesses e) (ap uses_b e) (omega arith))
+      ∙ (read_alike px (λ m. memory (a_of t (i + 1)) m (s.operands.a-used (ap uses_a e)) s.operands.a p)
+      ∙ sym (at_read l d va x oa ob oc px j e)))
   by-rule (is-write e h p q r) =
-      at-write d va y oa ob oc pz j e
+      at-write l d va y oa ob oc pz j e
       ∙ (ap (λ k. write_value y oa k (get_or y oc 0) j) (place-alike (ap accesses e) (ap uses_b e) (omega arith))
       ∙ (write-alike px
       (word (c_of t (i + 1)) (s.operands.c-used (ap uses_c e)) s.operands.c (omega arith))
       (same (a_of t (i + 1)) (s.operands.a-used (ap uses_a e)) s.operands.a (p ∙ sym h))
-      ∙ sym (at-write d va x oa ob oc px j e)))
+      ∙ sym (at-write l d va x oa ob oc px j e)))
 
-  local : slot_at d va y oa ob oc pz j ≡ slot_at d va x oa ob oc px j
+  local : slot_at l d va y oa ob oc pz j ≡ slot_at l d va x oa ob oc px j
   unfolding Local
   local = by-rule s.sort
 

@@ -17,7 +17,7 @@ use Rattle.table.proofs.Whole.{Sound, Rule, Extended, is-const, is-input, is_sta
 use Rattle.values.specs.Value.{not_word, add_word, sub_word, mul_word, div_word, rem_word, sll_word, srl_word, sext_word, read_value, write_value, ite_value, place_at, slot_at}
 use Rattle.values.specs.Eval.{slots, offset, node_given, slot_width, slot_bad, input_bad, eval_words}
 use Rattle.values.specs.Frame.{InRange, Made}
-use Rattle.values.proofs.ByKind.{at-const, at-state, at_op, at-bad, at-ext, at-ite, at-divu, at-rem, at_read, at-write, at-sext, place_in}
+use Rattle.values.proofs.ByKind.{at-const, at-state, at_op, at-bad, at-ext, at-ite, at-divu, at-rem, at_read, at-write, at-sext}
 use Rattle.values.proofs.Seen.{width_word, width-memory, no-input, initial, memory-own, see-word, see-memory, see-same}
 use Rattle.values.proofs.Kept.{finished}
 use Rattle.values.proofs.Local.{done-right}
@@ -115,16 +115,16 @@ module _ (t l : List ℕ) (w i : ℕ) (x : List ℕ) (j : ℕ) (pos : 1 ≤ w) (
   under u z = lt_of_lt_of_le (word (a_of t (i + 1)) (s.operands.a-used u) s.operands.a z.word) (pow_mono z.wide)
 
   Good : Type 0
-  Good = slot_at d va x oa ob oc px j < 2 ^ slot_width w d
+  Good = slot_at l d va x oa ob oc px j < 2 ^ slot_width w d
 
   -- a word by its value
-  as-word : (v : ℕ) → slot_at d va x oa ob oc px j ≡ v → 1 ≤ d.width → v < 2 ^ d.width → Good
+  as-word : (v : ℕ) → slot_at l d va x oa ob oc px j ≡ v → 1 ≤ d.width → v < 2 ^ d.width → Good
   unfolding Good
   as-word v e h k = rw (e, width_word w d h) k
 
-  read-range : (p : Option ℕ) → ((m : ℕ) → Some m ≡ p → get_or x (oa + m) 0 < 2 ^ w) → read_value x oa p < 2 ^ w
+  read-range : (p : Option ℕ) → ((m : ℕ) → m < length l → get_or x (oa + m) 0 < 2 ^ w) → read_value l x oa p < 2 ^ w
   unfolding read_value
-  read-range (Some m) h = h m refl
+  read-range (Some m) h = by-pick (λ v. v < 2 ^ w) (ltb m (length l)) (get_or x (oa + m) 0) 0 (λ e. h m (ltb-true m (length l) e)) (λ e. pow_pos w)
   read-range None h = pow_pos w
 
   write-range : (p : Option ℕ) (u : ℕ) → u < 2 ^ w → get_or x (oa + j) 0 < 2 ^ w → write_value x oa p u j < 2 ^ w
@@ -138,35 +138,35 @@ module _ (t l : List ℕ) (w i : ℕ) (x : List ℕ) (j : ℕ) (pos : 1 ≤ w) (
 
   by-rule : Rule w d (width_of t (a_of t (i + 1))) (width_of t (b_of t (i + 1))) (width_of t (c_of t (i + 1))) → Good
   unfolding Good
-  by-rule (is-const e h m) = as-word d.imm (at-const d va x oa ob oc px j e) h m
+  by-rule (is-const e h m) = as-word d.imm (at-const l d va x oa ob oc px j e) h m
   by-rule (is-input e) = absurd (no-input d e free)
   by-rule (is_state e (inl z)) = absurd (omega (arith, initial d e free))
-  by-rule (is_state e (inr z)) = rw (at-state d va x oa ob oc px j e) (same (a_of t (i + 1)) (initial d e free) s.operands.a z)
+  by-rule (is_state e (inr z)) = rw (at-state l d va x oa ob oc px j e) (same (a_of t (i + 1)) (initial d e free) s.operands.a z)
   by-rule (is-op o e z) =
-      as-word (op_value o d.width (get_or x oa 0) (get_or x ob 0)) (at_op d va x oa ob oc px j o e) (omega (arith, z.wide, op-some o va z.word))
+      as-word (op_value o d.width (get_or x oa 0) (get_or x ob 0)) (at_op l d va x oa ob oc px j o e) (omega (arith, z.wide, op-some o va z.word))
       (rw (op-wide d.width va (get_or x oa 0) (get_or x ob 0) o (op-even o z.wide), z.wide)
       (op-range va (get_or x oa 0) (get_or x ob 0) (word (a_of t (i + 1)) (s.operands.a-used (ap uses_a e ∙ op-a o)) s.operands.a z.word) o
       (λ u. rw (z.same u) at (word (b_of t (i + 1)) (s.operands.b-used (ap uses_b e ∙ (op-b o ∙ u))) s.operands.b (omega (arith, z.word, z.same u))))))
-  by-rule (is-bad e h z) = as-word _ (at-bad d va x oa ob oc px j e) (omega arith) (left (ap uses_a e) (omega arith) (z ∙ sym h))
-  by-rule (is-ext e z) = as-word _ (at-ext d va x oa ob oc px j e) (omega arith) (under (ap uses_a e) z)
-  by-rule (is-sext e z) = as-word _ (at-sext d va x oa ob oc px j e) (omega arith) (sext-range va d.width (get_or x oa 0) (under (ap uses_a e) z))
-  by-rule (is-divu e z) = as-word _ (at-divu d va x oa ob oc px j e) z.word (div-range d.width (get_or x oa 0) (get_or x ob 0) (left (ap uses_a e) z.word z.left))
-  by-rule (is-rem e z) = as-word _ (at-rem d va x oa ob oc px j e) z.word (rem-range d.width (get_or x oa 0) (get_or x ob 0) (left (ap uses_a e) z.word z.left))
+  by-rule (is-bad e h z) = as-word _ (at-bad l d va x oa ob oc px j e) (omega arith) (left (ap uses_a e) (omega arith) (z ∙ sym h))
+  by-rule (is-ext e z) = as-word _ (at-ext l d va x oa ob oc px j e) (omega arith) (under (ap uses_a e) z)
+  by-rule (is-sext e z) = as-word _ (at-sext l d va x oa ob oc px j e) (omega arith) (sext-range va d.width (get_or x oa 0) (under (ap uses_a e) z))
+  by-rule (is-divu e z) = as-word _ (at-divu l d va x oa ob oc px j e) z.word (div-range d.width (get_or x oa 0) (get_or x ob 0) (left (ap uses_a e) z.word z.left))
+  by-rule (is-rem e z) = as-word _ (at-rem l d va x oa ob oc px j e) z.word (rem-range d.width (get_or x oa 0) (get_or x ob 0) (left (ap uses_a e) z.word z.left))
   by-rule (is-ite e p q r) =
-      rw (at-ite d va x oa ob oc px j e)
+      rw (at-ite l d va x oa ob oc px j e)
       (ite-range (2 ^ slot_width w d)
       (same (b_of t (i + 1)) (s.operands.b-used (ap uses_b e)) s.operands.b q)
       (same (c_of t (i + 1)) (s.operands.c-used (ap uses_c e)) s.operands.c r))
   by-rule (is_read e h p q) =
-      as-word _ (at_read d va x oa ob oc px j e) (omega arith)
-      (lt_of_lt_of_le (read-range px (λ m h. memory (a_of t (i + 1)) m (s.operands.a-used (ap uses_a e)) s.operands.a p (place_in l d x ob m h))) (pow_mono (omega arith)))
+      as-word _ (at_read l d va x oa ob oc px j e) (omega arith)
+      (lt_of_lt_of_le (read-range px (λ m. memory (a_of t (i + 1)) m (s.operands.a-used (ap uses_a e)) s.operands.a p)) (pow_mono (omega arith)))
   by-rule (is-write e h p q r) =
-      rw (at-write d va x oa ob oc px j e, width-memory w d h)
+      rw (at-write l d va x oa ob oc px j e, width-memory w d h)
       (write-range px (get_or x oc 0)
       (rw r at (word (c_of t (i + 1)) (s.operands.c-used (ap uses_c e)) s.operands.c (omega arith)))
       (memory (a_of t (i + 1)) j (s.operands.a-used (ap uses_a e)) s.operands.a p (omega (arith, memory-own t l i h))))
 
-  slot-range : slot_at d va x oa ob oc px j < 2 ^ slot_width w d
+  slot-range : slot_at l d va x oa ob oc px j < 2 ^ slot_width w d
   unfolding Good
   slot-range = by-rule s.sort
 

@@ -59,16 +59,16 @@ slot_bad u vals o j = not (nat_lt (slice_index vals (o + j)) (2 ^ u))
 unfoldable pub input_bad : List ℕ → List ℕ → ℕ → List ℕ → ℕ → Bool
 input_bad t l w vals i = node_given t i && nat_lt (first (slots t l i) (slot_bad (slot_width w (node_at t (i + 1))) vals (offset t l (i + 1)))) (slots t l i)
 
--- a node d is worked out slot by slot, from o on; its operands' slots begin at a, b and c, the first is v wide, and its address stands at place p
-unfoldable pub slot_step : Node → ℕ → ℕ → ℕ → ℕ → ℕ → Option ℕ → ℕ → List ℕ → List ℕ
-slot_step d v o a b c p j vals = slice_set vals (o + j) (slot_at d v vals a b c p j)
+-- a node d is worked out slot by slot, from o on; its operands' slots begin at a, b and c, the first is v wide, and its address stands at place p of the list l
+unfoldable pub slot_step : List ℕ → Node → ℕ → ℕ → ℕ → ℕ → ℕ → Option ℕ → ℕ → List ℕ → List ℕ
+slot_step l d v o a b c p j vals = slice_set vals (o + j) (slot_at l d v vals a b c p j)
 
 -- node i + 1
 unfoldable pub node_step : List ℕ → List ℕ → ℕ → List ℕ → List ℕ
 node_step t l i vals =
     pick (node_given t i) vals
     (iter (slots t l i)
-    (slot_step (node_at t (i + 1)) (width_of t (a_of t (i + 1))) (offset t l (i + 1)) (offset t l (a_of t (i + 1))) (offset t l (b_of t (i + 1))) (offset t l (c_of t (i + 1)))
+    (slot_step l (node_at t (i + 1)) (width_of t (a_of t (i + 1))) (offset t l (i + 1)) (offset t l (a_of t (i + 1))) (offset t l (b_of t (i + 1))) (offset t l (c_of t (i + 1)))
     (place_at l (node_at t (i + 1)) vals (offset t l (b_of t (i + 1)))))
     vals)
 

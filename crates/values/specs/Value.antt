@@ -32,10 +32,10 @@ word_value d v x y =
 abbrev pub listed : List ℕ → ℕ → Option ℕ
 listed l x = found (length l) (is_at l x)
 
--- a read of the memory at o, where the address stands at place p of the list: 0 where it is not listed
-unfoldable pub read_value : List ℕ → ℕ → Option ℕ → ℕ
-read_value vals o (Some p) = slice_index vals (o + p)
-read_value vals o None = 0
+-- a read of the memory at o, where the address stands at place p of the list l: 0 where it is not listed, and where the list ends before p
+unfoldable pub read_value : List ℕ → List ℕ → ℕ → Option ℕ → ℕ
+read_value l vals o (Some p) = pick (nat_lt p (length l)) (slice_index vals (o + p)) 0
+read_value l vals o None = 0
 
 -- word j of the memory at o after a write of y, where the address stands at place p: nothing changes where it is not listed
 unfoldable pub write_value : List ℕ → ℕ → Option ℕ → ℕ → ℕ → ℕ
@@ -50,15 +50,15 @@ ite_value vals a b c j = pick (slice_index vals a == 1) (slice_index vals (b + j
 unfoldable pub place_at : List ℕ → Node → List ℕ → ℕ → Option ℕ
 place_at l d vals b = pick (accesses d.kind) (listed l (slice_index vals b)) None
 
--- slot j of a node, over operands whose slots begin at a, b and c, of which the first is v wide, with its address at place p: a word has slot 0 alone, a memory
--- one for each listed address
-unfoldable pub slot_at : Node → ℕ → List ℕ → ℕ → ℕ → ℕ → Option ℕ → ℕ → ℕ
-slot_at d v vals a b c p j =
+-- slot j of a node, over operands whose slots begin at a, b and c, of which the first is v wide, with its address at place p of the list l: a word has slot 0
+-- alone, a memory one for each listed address
+unfoldable pub slot_at : List ℕ → Node → ℕ → List ℕ → ℕ → ℕ → ℕ → Option ℕ → ℕ → ℕ
+slot_at l d v vals a b c p j =
     pick (d.kind == STATE) (slice_index vals (a + j))
     (pick (d.kind == ITE) (ite_value vals a b c j)
-    (pick (d.kind == READ) (read_value vals a p)
+    (pick (d.kind == READ) (read_value l vals a p)
     (pick (d.kind == WRITE) (write_value vals a p (slice_index vals c) j)
     (word_value d v (slice_index vals a) (slice_index vals b)))))
 
 abbrev pub slot_value : List ℕ → Node → ℕ → List ℕ → ℕ → ℕ → ℕ → ℕ → ℕ
-slot_value l d v vals a b c j = slot_at d v vals a b c (place_at l d vals b) j
+slot_value l d v vals a b c j = slot_at l d v vals a b c (place_at l d vals b) j

@@ -54,7 +54,12 @@ impl Layout<'_> {
             c: self.offset(node.c as usize),
             p: place_at(self.addrs, node, values, b),
         };
-        operands.fill(self.offset(i + 1), slots_of(self.addrs, node), values);
+        operands.fill(
+            self.addrs,
+            self.offset(i + 1),
+            slots_of(self.addrs, node),
+            values,
+        );
     }
 
     // All nodes upwards.

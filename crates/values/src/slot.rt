@@ -1,5 +1,4 @@
 ghost use Rattle.std.specs.Prelude.{◌≡◌, ◌+◌, ◌≤◌, ◌<◌, length, slice_index};
-ghost use Rattle.std.specs.Option.{ForSome};
 ghost use Rattle.loops.specs.Loop.{iter};
 ghost use Rattle.table.specs.Size.{size_of};
 ghost use Rattle.values.specs.Value.{read_value, write_value, ite_value, place_at, slot_at};
@@ -53,18 +52,18 @@ pub struct Operands {
     pub p: Option<usize>,
     pub ghost narrow: { (node.width ≤ 64) × (v ≤ 64) },
     pub ghost near: { (a ≤ 65536) × (b ≤ 65536) × (c ≤ 65536) },
-    pub ghost placed: { ForSome p (λ i. i ≤ 64) },
 }
 
 impl Operands {
-    // A read of the memory at a: 0 where the address is not listed.
-    #[tactic(auto, unfolding(crate::specs::Value::read_value))]
-    fn read_value(self, values: &[u64]) -> u64
-        ensures { result ≡ read_value values.now self.a self.p }
+    // A read of the memory at a: 0 where the address is not listed. A place past the list's end is no address's, and its slot may be another node's.
+    #[tactic(auto, unfolding(crate::specs::Value::read_value, loops::specs::Loop::pick))]
+    fn read_value(self, addrs: &[u64], values: &[u64]) -> u64
+        requires { length addrs.now ≤ 64 }
+        ensures { result ≡ read_value addrs.now values.now self.a self.p }
     {
         match self.p {
-            Some(i) => at(values, self.a + i),
-            None => 0,
+            Some(i) if i < addrs.len() => at(values, self.a + i),
+            _ => 0,
         }
     }
 
@@ -95,14 +94,14 @@ impl Operands {
 
     // Slot j of the node.
     #[tactic(auto, unfolding(crate::specs::Value::slot_at, loops::specs::Loop::pick))]
-    pub fn slot_at(self, values: &[u64], j: usize) -> u64
-        requires { j ≤ 64 }
-        ensures { result ≡ slot_at self.node self.v values.now self.a self.b self.c self.p j }
+    pub fn slot_at(self, addrs: &[u64], values: &[u64], j: usize) -> u64
+        requires { (length addrs.now ≤ 64) × (j ≤ 64) }
+        ensures { result ≡ slot_at addrs.now self.node self.v values.now self.a self.b self.c self.p j }
     {
         match self.node.kind {
             STATE => at(values, self.a + j),
             ITE => self.ite_value(values, j),
-            READ => self.read_value(values),
+            READ => self.read_value(addrs, values),
             WRITE => self.write_value(values, j),
             _ => word_value(self.node, self.v, at(values, self.a), at(values, self.b)),
         }
@@ -110,12 +109,12 @@ impl Operands {
 
     // The m slots of the node, from o on.
     #[tactic(auto, using(loops::proofs::Loop::for_loop), unfolding(crate::specs::Eval::slot_step))]
-    pub(crate) fn fill(self, o: usize, m: usize, values: &mut [u64])
-        requires { (o ≤ 65536) × (m ≤ 64) × (o + m ≤ length values.old) }
-        ensures { values.new ≡ iter m (slot_step self.node self.v o self.a self.b self.c self.p) values.old }
+    pub(crate) fn fill(self, addrs: &[u64], o: usize, m: usize, values: &mut [u64])
+        requires { (length addrs.now ≤ 64) × (o ≤ 65536) × (m ≤ 64) × (o + m ≤ length values.old) }
+        ensures { values.new ≡ iter m (slot_step addrs.now self.node self.v o self.a self.b self.c self.p) values.old }
     {
         for j in 0..m {
-            values[o + j] = self.slot_at(values, j);
+            values[o + j] = self.slot_at(addrs, values, j);
         }
     }
 }

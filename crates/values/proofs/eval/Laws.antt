@@ -20,11 +20,16 @@ module _ (t l vals : List ℕ) (i : ℕ) (d : Node) (r : Bool) (e : d ≡ node_a
   unfolding node_step
   node_kept h = sym (pick_true _ _ _ (is-given ∙ h))
 
-  pub node_made : (v o a b c : ℕ) (p : Option ℕ) (m : ℕ) (x : List ℕ) → r ≡ false → v ≡ width_of t d.a → o ≡ offset t l (i + 1) → a ≡ offset t l d.a → b ≡ offset t l d.b → c ≡ offset t l d.c → p ≡ place_at l d vals b
-      → m ≡ size_of Slot (length l) 0 d.width → x ≡ iter m (slot_step d v o a b c p) vals → x ≡ node_step t l i vals
+  pub node_made : (v o a b c : ℕ) (p : Option ℕ) (m : ℕ) (x : List ℕ) → r ≡ false → v ≡ width_of t d.a → o ≡ offset t l (i + 1)
+      → a ≡ offset t l d.a → b ≡ offset t l d.b → c ≡ offset t l d.c → p ≡ place_at l d vals b
+      → m ≡ size_of Slot (length l) 0 d.width → x ≡ iter m (slot_step l d v o a b c p) vals → x ≡ node_step t l i vals
   unfolding node_step node_size
   node_made v o a b c p m x h ev eo ea eb ec ep em q =
-      let made : x ≡ iter (slots t l i) (slot_step (node_at t (i + 1)) (width_of t (a_of t (i + 1))) (offset t l (i + 1)) (offset t l (a_of t (i + 1))) (offset t l (b_of t (i + 1))) (offset t l (c_of t (i + 1))) (place_at l (node_at t (i + 1)) vals (offset t l (b_of t (i + 1))))) vals = cc in
+      let made : x
+      ≡ iter (slots t l i)
+      (slot_step l (node_at t (i + 1)) (width_of t (a_of t (i + 1))) (offset t l (i + 1)) (offset t l (a_of t (i + 1))) (offset t l (b_of t (i + 1))) (offset t l (c_of t (i + 1)))
+      (place_at l (node_at t (i + 1)) vals (offset t l (b_of t (i + 1)))))
+      vals = cc in
       made ∙ sym (pick-false _ _ _ (is-given ∙ h))
 
 pub fill-room : (t l : List ℕ) (i : ℕ) (d : Node) (o m n : ℕ) → i < nodes t → d ≡ node_at t (i + 1) → o ≡ offset t l (i + 1) → m ≡ size_of Slot (length l) 0 d.width
