@@ -10,21 +10,12 @@ use crate::size::{Listing, times};
 use crate::{Node, Sums, Unit};
 use digits::powers_below;
 
-fn less_one(a: u64) -> u64
-    ensures { result ≡ a - 1 }
-{
-    if a == 0 {
-        return 0;
-    }
-    a - 1
-}
-
 #[tactic(auto, unfolding(crate::specs::Ceiling::div_gates))]
 fn div_gates(v: u64) -> u64
     requires { v ≤ 64 }
     ensures { (result ≡ div_gates v) × (result ≤ 67108864) }
 {
-    times(2 * v, v) + 18 * v + 1 + times(v, less_one(v)) / 2
+    times(2 * v, v) + 18 * v + 1 + times(v, v.saturating_sub(1)) / 2
 }
 
 #[tactic(auto, unfolding(crate::specs::Ceiling::div_constraints))]
@@ -32,7 +23,7 @@ fn div_constraints(v: u64) -> u64
     requires { v ≤ 64 }
     ensures { (result ≡ div_constraints v) × (result ≤ 67108864) }
 {
-    times(v, less_one(v)) / 2 + 2 * v + 2
+    times(v, v.saturating_sub(1)) / 2 + 2 * v + 2
 }
 
 // A stage for each power of two below the width.
@@ -42,7 +33,7 @@ fn shift_gates(v: u64) -> u64
     ensures { (result ≡ shift_gates v) × (result ≤ 67108864) }
 {
     let s = powers_below(v as usize) as u64;
-    less_one(times(3 * v, s) + 2 * v - s)
+    (times(3 * v, s) + 2 * v - s).saturating_sub(1)
 }
 
 impl Listing {
@@ -52,7 +43,7 @@ impl Listing {
         requires { k ≤ 5 }
         ensures { (result ≡ memory_gates self.n self.w k) × (result ≤ 67108864) }
     {
-        times(self.n, less_one(times(k, self.w)))
+        times(self.n, times(k, self.w).saturating_sub(1))
     }
 
     #[tactic(auto, unfolding(crate::specs::Ceiling::ite_gates))]
@@ -74,7 +65,7 @@ impl Listing {
             READ => self.memory_gates(4),
             WRITE => self.memory_gates(5),
             NOT | AND | OR => x,
-            EQ => less_one(3 * x),
+            EQ => (3 * x).saturating_sub(1),
             ADD => 3 * x,
             SUB => 4 * x,
             ULT => 4 * x + 1,

@@ -4,26 +4,12 @@ ghost use Rattle.values.specs.Value.{not_word, add_word, sub_word, mul_word, div
 use table::Node;
 use table::kind::{ADD, AND, CONST, DIVU, EQ, MUL, NOT, OR, REM, SEXT, SLL, SRL, SUB, ULT};
 
-// The low half of a product, from the halves of its factors: no product on the way wraps.
-fn mul_low(x: u64, y: u64) -> u64
-    ensures { result ≡ x * y % 2 ^ 64 }
-{
-    let x1 = x >> 32;
-    let x0 = x % 4294967296;
-    let y1 = y >> 32;
-    let y0 = y % 4294967296;
-    let mid = std::num::wrapping_add_u64(x1 * y0, x0 * y1);
-    std::num::wrapping_add_u64(mid << 32, x0 * y0)
-}
-
+// A remainder by zero is the dividend.
 #[tactic(auto, unfolding(crate::specs::Value::rem_word, loops::specs::Loop::pick))]
 pub fn rem_word(x: u64, y: u64) -> u64
     ensures { result ≡ rem_word x y }
 {
-    if y == 0 {
-        return x;
-    }
-    x % y
+    x.checked_rem(y).unwrap_or(x)
 }
 
 // The width of a word: at most 64 bits.
@@ -53,7 +39,7 @@ impl Width {
         if self.bits < 64 {
             return (1 << self.bits) - 1;
         }
-        18446744073709551615
+        u64::MAX
     }
 
     #[tactic(auto, using(crate::proofs::value::Laws::word_rules))]
@@ -67,21 +53,21 @@ impl Width {
     fn add_word(self, x: u64, y: u64) -> u64
         ensures { result ≡ add_word self.bits x y }
     {
-        self.reduce(std::num::wrapping_add_u64(x, y))
+        self.reduce(x.wrapping_add(y))
     }
 
     #[tactic(auto, using(crate::proofs::value::Laws::word_rules))]
     fn sub_word(self, x: u64, y: u64) -> u64
         ensures { result ≡ sub_word self.bits x y }
     {
-        self.reduce(std::num::wrapping_sub_u64(x, y))
+        self.reduce(x.wrapping_sub(y))
     }
 
     #[tactic(auto, using(crate::proofs::value::Laws::word_rules))]
     fn mul_word(self, x: u64, y: u64) -> u64
         ensures { result ≡ mul_word self.bits x y }
     {
-        self.reduce(mul_low(x, y))
+        self.reduce(x.wrapping_mul(y))
     }
 
     // An amount of width or more gives zero, in both shifts.
@@ -112,21 +98,19 @@ impl Width {
     {
         let low = self.mask();
         if low / 2 < x {
-            return to.sub_word(x, std::num::wrapping_add_u64(low, 1));
+            return to.sub_word(x, low.wrapping_add(1));
         }
         x
     }
 }
 
+// A quotient by zero is all ones.
 #[tactic(auto, unfolding(crate::specs::Value::div_word, loops::specs::Loop::pick))]
 pub fn div_word(v: u64, x: u64, y: u64) -> u64
     requires { v ≤ 64 }
     ensures { result ≡ div_word v x y }
 {
-    if y == 0 {
-        return Width { bits: v }.mask();
-    }
-    x / y
+    x.checked_div(y).unwrap_or(Width { bits: v }.mask())
 }
 
 // A word node's value, over the values x of its first operand, which is v wide, and y of its second.
