@@ -33,6 +33,7 @@ fn write_one(list: &mut GateList, a: u64, adr: &[u32], val: &[u32], w: usize, wo
 }
 
 // A word of w bits written to the memory at an address: where that is not known, every listed word may be the one.
+// (A read asks alike whether the address is known; that question is all that the two share.)
 pub fn write_words(
     list: &mut GateList,
     addrs: &[u64],

@@ -2,7 +2,8 @@ ghost use Rattle.std.specs.Prelude.{◌≡◌, ◌+◌, ◌≤◌};
 ghost use Rattle.table.specs.Node.{nodes};
 ghost use Rattle.values.specs.Eval.{Ready, offset};
 
-// A table without fault, its listed addresses, and where each node's slots begin.
+// A table without fault, its listed addresses, and where each node's slots begin. (`Listing` counts alone, and nodes' `Laid` has the word width
+// and the offsets of bits: what is known of each differs.)
 #[derive(Clone, Copy)]
 pub struct Layout<'a> {
     pub table: &'a [u64],

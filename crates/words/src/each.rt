@@ -6,7 +6,7 @@ ghost use Rattle.words.specs.Each.{bitwise, bit_cost, each_cost, word_of, each_b
 use gates::list::GateList;
 
 // What is made of bit i of a left and a right word; a bit that is the same at each place comes along. An enum, and not a closure or a type for
-// each: the seven are the cases of the laws (specs/Each.antt), and one match says them in a quarter of the lines that seven impls take.
+// each: the seven are the cases of the laws (specs/Each.antt), and one match says in one place what seven impls would say in seven.
 #[derive(Clone, Copy)]
 pub enum Bitwise {
     Not,
