@@ -14,12 +14,13 @@ use lib.ListN.{length, get_or, set, length-set}
 use lib.Seq.{get_or-set_same, get_or-set_other}
 use borrow.Author.Tests.{leb-true, le-leb, not-false}
 use Rattle.std.specs.declared.option.Option.{Option}
+use Rattle.std.specs.declared.option.Option.TheVariants.{Some, None}
 use Rattle.std.specs.Option.{unwrap_or}
 use Rattle.loops.specs.Loop.{first, found}
 use Rattle.loops.proofs.Search.{first-is, found_or, first_same}
-use Rattle.loops.proofs.Loop.{iter-inv, loop-more, first_below}
+use Rattle.loops.proofs.Loop.{by-pick, iter-inv, loop-more, first_below}
 use Rattle.netlist.proofs.BitLaws.{known-less, less-known}
-use Rattle.digits.specs.Digits.{digit, powers_below, number, digit_step, put_digits, Below, unknown_at, all_known, known_bits}
+use Rattle.digits.specs.Digits.{digit, powers_below, number, digit_step, put_digits, Below, unknown_at, all_known, known_bits, known_number, known}
 use Rattle.digits.proofs.Numbers.{bit-eqb, number_lt}
 
 -- after put_digits: the digits stand there, and every other place is as before
@@ -56,6 +57,16 @@ below_all bs w k =
 
 pub all-false : (bs : List ℕ) (w : ℕ) → all_known w bs ≡ false → Below 2 bs w → ⊥
 all-false bs w h k = false≢true (sym h ∙ below_all bs w k)
+
+-- what a caller learns of either answer
+module _ (w : ℕ) (bs : List ℕ) where
+  pub some_known : (a : ℕ) → Some a ≡ known w bs → (all_known w bs ≡ true) × (a ≡ known_number w bs)
+  unfolding known
+  some_known a e = by-pick (λ r. Some a ≡ r → (all_known w bs ≡ true) × (a ≡ known_number w bs)) (all_known w bs) _ None (λ t q. (t, grind arith)) (λ t q. absurd (grind arith)) e
+
+  pub none_known : None ≡ known w bs → all_known w bs ≡ false
+  unfolding known
+  none_known e = by-pick (λ r. None ≡ r → all_known w bs ≡ false) (all_known w bs) (Some (known_number w bs)) None (λ t q. absurd (grind arith)) (λ t q. t) e
 
 -- what the code's steps come to
 pub digits_more : (a i r : ℕ) (l x : List ℕ) → x ≡ put_digits a i l → r ≡ digit a i → set x i r ≡ put_digits a (i + 1) l

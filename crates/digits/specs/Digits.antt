@@ -1,6 +1,6 @@
 -- Binary digits, lowest first, and the number that a word's bits say.
-use Rattle.std.specs.Prelude.{◌≡◌, List, Bool, not, ℕ, zero, suc, ◌+◌, ◌*◌, ◌/◌, ◌%◌, ◌^◌, ◌<◌, eqb, leb, get_or, set}
-use Rattle.loops.specs.Loop.{iter, first, bit}
+use Rattle.std.specs.Prelude.{◌≡◌, List, Bool, not, Option, Some, None, ℕ, zero, suc, ◌+◌, ◌*◌, ◌/◌, ◌%◌, ◌^◌, ◌<◌, eqb, leb, get_or, set}
+use Rattle.loops.specs.Loop.{pick, iter, first, bit}
 use Rattle.netlist.specs.Bit.{is_known}
 
 -- digit i of a number
@@ -44,3 +44,7 @@ known_bits bs i = eqb (get_or bs i 0) 1
 
 abbrev pub known_number : ℕ → List ℕ → ℕ
 known_number w bs = number (known_bits bs) w
+
+-- the number that a word says, if it is wholly known
+unfoldable pub known : ℕ → List ℕ → Option ℕ
+known w bs = pick (all_known w bs) (Some (known_number w bs)) None

@@ -3,7 +3,7 @@
 
 ghost use Rattle.std.specs.Prelude.{◌≡◌, ℕ, ◌+◌, ◌*◌, ◌^◌, ◌≤◌, ◌<◌, length};
 ghost use Rattle.loops.specs.Loop.{iter, bit};
-ghost use Rattle.digits.specs.Digits.{digit, powers_below, put_digits, all_known, Below, known_number};
+ghost use Rattle.digits.specs.Digits.{digit, powers_below, put_digits, all_known, Below, known_number, known};
 
 use netlist::record::Gate;
 
@@ -63,4 +63,13 @@ pub fn known_number(bits: &[u32]) -> u64
         x = with_digit(x, bit, i);
     }
     x
+}
+
+// The number that a word says, where all its bits are known.
+#[tactic(auto, using(crate::proofs::Words::all_true), unfolding(crate::specs::Digits::known, loops::specs::Loop::pick))]
+pub fn known(bits: &[u32]) -> Option<u64>
+    requires { length bits.now ≤ 64 }
+    ensures { result ≡ known (length bits.now) bits.now }
+{
+    all_known(bits).then(|| known_number(bits))
 }

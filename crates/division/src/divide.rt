@@ -87,6 +87,7 @@ impl Division<'_> {
         ensures same { SameLists lists.old lists.new }
         ensures made { checked_of lists.new out.new ≡ divide_words self.now.quotient self.now.w self.now.node self.now.num.now self.now.den.now (checked_of lists.old out.old) }
     {
+        // Two bools and not `digits::known`: the numbers are read by `divide_known`, whose contract, named in docs/STATEMENTS.md, takes the words themselves.
         let known_num = digits::all_known(self.num);
         let known_den = digits::all_known(self.den);
         if known_num & known_den {

@@ -2,7 +2,6 @@
 use mathlib.Core.Path.{◌≡◌, refl, ap, sym, ◌∙◌}
 use mathlib.Core.List.{List, ◌++◌}
 use Rattle.std.proofs.Common.{rules}
-use mathlib.Core.Bool.{Bool, true, false}
 use Prim.Native.Nat.{ℕ, zero, suc, ◌+◌, ◌*◌, ◌-◌, ◌≤◌, ◌<◌}
 use native.Mathlib.Omega.{arith}
 use native.Mathlib.Nat.{mul-le-mul_right}
@@ -22,8 +21,8 @@ use Rattle.gates.specs.declared.list.GateList.{GateList}
 use Rattle.gates.specs.Made.{MadeBit, net_of, made_of}
 use Rattle.gates.specs.Law.{Ext}
 use Rattle.gates.proofs.Laws.{ext_refl, ext_trans, ext-weaken}
-use Rattle.digits.specs.Digits.{put_digits, Below, all_known, known_number}
-use Rattle.digits.proofs.Words.{all_true}
+use Rattle.digits.specs.Digits.{put_digits, all_known, known}
+use Rattle.digits.proofs.Words.{some_known, none_known}
 use Rattle.words.specs.declared.each.Bitwise.{Bitwise}
 use Rattle.words.specs.declared.each.Bitwise.TheVariants.{Or, AndWith, Choose}
 use Rattle.words.specs.Num.{blank}
@@ -211,33 +210,25 @@ module _ (w : ℕ) (addrs adr val : List ℕ) (big : 1 ≤ w) (small : w ≤ 64)
     writes-room = listed-room (write_step w addrs adr val) (5 * w - 1) writes-ext s t out i e
 
 -- the address's width is its length
-module _ (w : ℕ) (adr : List ℕ) (k : Bool) (lw : w ≡ length adr) (ek : k ≡ all_known (length adr) adr) where
-  pub known-below : k ≡ true → Below 2 adr (length adr)
-  known-below t = all_true adr (length adr) (sym ek ∙ t)
-
-  pub read-at-known : (N : ℕ) (addrs mem : List ℕ) (t : GateList) (out out' : List ℕ) (a : ℕ) → k ≡ true → a ≡ known_number (length adr) adr → out' ≡ read_known N w addrs mem a out
+module _ (w : ℕ) (adr : List ℕ) (lw : w ≡ length adr) where
+  pub read-at-known : (N : ℕ) (addrs mem : List ℕ) (t : GateList) (out out' : List ℕ) (a : ℕ) → Some a ≡ known (length adr) adr → out' ≡ read_known N w addrs mem a out
       → word_of t out' ≡ read_words N w addrs mem adr (word_of t out)
   unfolding read_words pick
-  read-at-known N addrs mem t out out' a z ea e =
-      rw (ap (λ (l : ℕ). all_known l adr) lw ∙ (sym ek ∙ z))
-      (ap {B = Word} (λ o. word_of t o) (e ∙ ap (λ (b : ℕ). read_known N w addrs mem b out) (ea ∙ ap (λ (l : ℕ). known_number l adr) (sym lw))))
+  read-at-known N addrs mem t out out' a z e = let k = some_known w adr a (rw (← lw) at z) in rw (k.0, ← k.1) (ap {B = Word} (λ o. word_of t o) e)
 
-  pub read-at-other : (N : ℕ) (addrs mem : List ℕ) (t : GateList) (out out₁ : List ℕ) (x : Word) → k ≡ false → out₁ ≡ put_bits 0 blank w out
+  pub read-at-other : (N : ℕ) (addrs mem : List ℕ) (t : GateList) (out out₁ : List ℕ) (x : Word) → None ≡ known (length adr) adr → out₁ ≡ put_bits 0 blank w out
       → x ≡ iter N (read_step w addrs mem adr) (word_of t out₁) → x ≡ read_words N w addrs mem adr (word_of t out)
   unfolding read_words pick
-  read-at-other N addrs mem t out out₁ x z e₁ e =
-      rw (ap (λ (l : ℕ). all_known l adr) lw ∙ (sym ek ∙ z)) (e ∙ ap (λ (o : List ℕ). iter N (read_step w addrs mem adr) (word_of t o)) e₁)
+  read-at-other N addrs mem t out out₁ x z e₁ e = rw (none_known w adr (rw (← lw) at z)) (e ∙ ap (λ (o : List ℕ). iter N (read_step w addrs mem adr) (word_of t o)) e₁)
 
-  pub write-at-known : (N : ℕ) (addrs val : List ℕ) (t : GateList) (mem mem' : List ℕ) (a : ℕ) → k ≡ true → a ≡ known_number (length adr) adr → mem' ≡ write_known N w addrs a val mem
+  pub write-at-known : (N : ℕ) (addrs val : List ℕ) (t : GateList) (mem mem' : List ℕ) (a : ℕ) → Some a ≡ known (length adr) adr → mem' ≡ write_known N w addrs a val mem
       → word_of t mem' ≡ write_words N w addrs adr val (word_of t mem)
   unfolding write_words pick
-  write-at-known N addrs val t mem mem' a z ea e =
-      rw (ap (λ (l : ℕ). all_known l adr) lw ∙ (sym ek ∙ z))
-      (ap {B = Word} (λ o. word_of t o) (e ∙ ap (λ (b : ℕ). write_known N w addrs b val mem) (ea ∙ ap (λ (l : ℕ). known_number l adr) (sym lw))))
+  write-at-known N addrs val t mem mem' a z e = let k = some_known w adr a (rw (← lw) at z) in rw (k.0, ← k.1) (ap {B = Word} (λ o. word_of t o) e)
 
-  pub write-at-other : (N : ℕ) (addrs val : List ℕ) (s x : Word) → k ≡ false → x ≡ iter N (write_step w addrs adr val) s → x ≡ write_words N w addrs adr val s
+  pub write-at-other : (N : ℕ) (addrs val : List ℕ) (s x : Word) → None ≡ known (length adr) adr → x ≡ iter N (write_step w addrs adr val) s → x ≡ write_words N w addrs adr val s
   unfolding write_words pick
-  write-at-other N addrs val s x z e = rw (ap (λ (l : ℕ). all_known l adr) lw ∙ (sym ek ∙ z)) e
+  write-at-other N addrs val s x z e = rw (none_known w adr (rw (← lw) at z)) e
 
 -- growth at any addresses, distinct or not
 pub read-ext : (n w : ℕ) (addrs mem adr : List ℕ) → 1 ≤ w → w ≤ 64 → (s : Word) → Ext s.net (read_words n w addrs mem adr s).net (n * (4 * w - 1))

@@ -61,8 +61,7 @@ pub fn read_words(
     ensures same { SameList list.old list.new }
     ensures made { word_of list.new out.new ≡ read_words (length addrs.now) w addrs.now mem.now adr.now (word_of list.old out.old) }
 {
-    if digits::all_known(adr) {
-        let a = digits::known_number(adr);
+    if let Some(a) = digits::known(adr) {
         read_known(addrs, mem, a, w, out);
         return;
     }

@@ -48,8 +48,7 @@ pub fn write_words(
     ensures same { SameList list.old list.new }
     ensures made { word_of list.new mem.new ≡ write_words (length addrs.now) w addrs.now adr.now val.now (word_of list.old mem.old) }
 {
-    if digits::all_known(adr) {
-        let a = digits::known_number(adr);
+    if let Some(a) = digits::known(adr) {
         write_known(addrs, a, val, w, mem);
         return;
     }

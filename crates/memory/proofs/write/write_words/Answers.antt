@@ -1,16 +1,14 @@
+use mathlib.Core.Path.{sym, ◌∙◌}
 use borrow.Author.Rules.{rules}
 use native.Mathlib.Omega.{arith}
 use Rattle.words.specs.Each.{word_of}
 use Rattle.loops.proofs.Loop.{loop-none, loop-more}
 use Rattle.memory.proofs.AddressLaws.{word_end}
-use Rattle.memory.proofs.Paths.{known-below, writes-room, write-step-path, write-at-known, write-at-other}
+use Rattle.memory.proofs.Paths.{writes-room, write-step-path, write-at-known, write-at-other}
 use Rattle.memory.proofs.write.write_words.Goals as goal
 
-pub known_number-a-requires-clause-below : goal.known_number-a-requires-clause-below
-known_number-a-requires-clause-below c = search (rules, known-below)
-
-pub returns-then-all_known-clause-made : goal.returns-then-all_known-clause-made
-returns-then-all_known-clause-made c = search (rules, write-at-known)
+pub returns-in-Some-clause-made : goal.returns-in-Some-clause-made
+returns-in-Some-clause-made c = search (rules, write-at-known, sym c.in-Some.is ∙ c.known.ensures)
 
 pub loop-i-init : goal.loop-i-init
 loop-i-init c = search (rules, loop-none)
