@@ -8,6 +8,7 @@ use native.Mathlib.Nat.{pow-suc}
 use native.Mathlib.Numerals.{add-one}
 use lib.Dec.{eqb}
 use lib.ListN.{length, get_or, replicate, length-replicate}
+use Rattle.std.proofs.lemmas.List.{get_or-replicate}
 use Rattle.loops.specs.Loop.{bit, pick}
 use Rattle.netlist.specs.Net.{Net, Assign, Obeys}
 use Rattle.digits.specs.Digits.{digit, number, Below, known_bits, known_number}
@@ -83,6 +84,10 @@ zeros-at : (n j : ℕ) → ◌≡◌ {A = ℕ} (get_or (replicate n 0) j 0) 0
 zeros-at zero j = refl
 zeros-at (suc n) zero = refl
 zeros-at (suc n) (suc j) = zeros-at n j
+
+pub filled-at : (b j : ℕ) → j < 65 → get_or (filled b) j 0 ≡ b
+unfolding filled
+filled-at b j l = get_or-replicate 65 j b 0 l
 
 pub blank-at : (j : ℕ) → get_or blank j 0 ≡ 0
 unfolding filled
