@@ -77,6 +77,10 @@ pub filled-long : (b : ℕ) → length (filled b) ≡ 65
 unfolding filled
 filled-long b = length-replicate {A = ℕ} 65 b
 
+pub filled-at : (b j : ℕ) → j < 65 → get_or (filled b) j 0 ≡ b
+unfolding filled
+filled-at b j l = get_or-replicate 65 j b 0 l
+
 pub blank-long : length blank ≡ 65
 blank-long = filled-long 0
 
@@ -84,10 +88,6 @@ zeros-at : (n j : ℕ) → ◌≡◌ {A = ℕ} (get_or (replicate n 0) j 0) 0
 zeros-at zero j = refl
 zeros-at (suc n) zero = refl
 zeros-at (suc n) (suc j) = zeros-at n j
-
-pub filled-at : (b j : ℕ) → j < 65 → get_or (filled b) j 0 ≡ b
-unfolding filled
-filled-at b j l = get_or-replicate 65 j b 0 l
 
 pub blank-at : (j : ℕ) → get_or blank j 0 ≡ 0
 unfolding filled
