@@ -36,14 +36,13 @@ pub fn raise(list: &mut GateList, den: &[u32], z: u32, w: usize, out: &mut [u32]
 
 impl Division<'_> {
     // What a division by zero answers: all ones, or the dividend.
-    #[tactic(auto, using(crate::proofs::Paths::steps), unfolding(loops::specs::Loop::pick, words::specs::Num::filled))]
+    #[tactic(auto, using(crate::proofs::Paths::steps, words::proofs::EachLaws::fill_path), unfolding(loops::specs::Loop::pick))]
     pub fn put_zero(&self, out: &mut [u32])
         requires { (self.now.w ≤ 64) × (self.now.w ≤ length self.now.num.now) × (self.now.w ≤ length out.old) }
         ensures { out.new ≡ put_bits 0 (zero_word self.now.quotient self.now.num.now) self.now.w out.old }
     {
         if self.quotient {
-            let ones = [1u32; 65];
-            each::put_bits(out, 0, &ones, self.w);
+            out[..self.w].fill(1);
         } else {
             each::put_bits(out, 0, self.num, self.w);
         }

@@ -22,7 +22,7 @@ use table::field::node_at;
 use table::kind::BAD;
 
 // What the places of a node that is not reached hold.
-const UNREACHED: u32 = 4294967295;
+const UNREACHED: u32 = u32::MAX;
 
 // Node k, if it is bad.
 fn root_step(laid: &Laid, lists: &mut Lists, map: &mut [u32], seen: &mut [u8], k: usize)

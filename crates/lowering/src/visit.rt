@@ -20,10 +20,7 @@ pub fn visit(laid: &Laid, lists: &mut Lists, map: &mut [u32], seen: &mut [u8], k
     ensures same { SameLists lists.old lists.new }
     ensures made { Visits (source_of laid.now) k (low_of lists.old map.old seen.old) (low_of lists.new map.new seen.new) }
 {
-    if k == 0 {
-        return;
-    }
-    if seen[k] == 1 {
+    if k == 0 || seen[k] == 1 {
         return;
     }
     seen[k] = 1;

@@ -1,15 +1,14 @@
 -- What the code's calls come to, path by path, over the definitions alone: a proof of the code cites each by its bare name in `search`.
 use mathlib.Core.Path.{◌≡◌, refl, ap, sym, ◌∙◌}
-use mathlib.Core.List.{List, ◌++◌}
-use Rattle.std.proofs.Common.{rules}
+use mathlib.Core.List.{List}
 use Prim.Native.Nat.{ℕ, zero, suc, ◌+◌, ◌*◌, ◌-◌, ◌≤◌, ◌<◌}
 use native.Mathlib.Omega.{arith}
 use native.Mathlib.Nat.{mul-le-mul_right}
 use native.Mathlib.Decide.{dec_lt}
 use borrow.Rule.Slice.PartMut.{put_mid}
-use Rattle.std.proofs.lemmas.List.{places, ext_get_or, take_all, length-take-le, length-drop}
+use Rattle.std.proofs.lemmas.List.{ext_get_or, take_all, length-take-le, length-drop}
 use lib.Seq.{get_or-set_same, get_or-set_other}
-use lib.ListN.{length, get_or, take, drop, replicate}
+use lib.ListN.{length, get_or, take, drop}
 use borrow.Author.Tests.{lt-ltb, le-ltb}
 use Rattle.std.specs.Prelude.{Some, None}
 use Rattle.loops.specs.Loop.{pick, iter, first, found}
@@ -28,7 +27,7 @@ use Rattle.words.specs.declared.each.Bitwise.TheVariants.{Or, AndWith, Choose}
 use Rattle.words.specs.Num.{blank}
 use Rattle.words.specs.Each.{Word, word_of, bitwise, each_step, each_bit, each_cost, copy_step, put_bits, Put}
 use Rattle.words.specs.Eq.{eq_words, eq_cost}
-use Rattle.words.proofs.NumLaws.{blank-long, blank-at}
+use Rattle.words.proofs.NumLaws.{blank-long}
 use Rattle.words.proofs.EachLaws.{ors-cost, choose-cost, each_long, each-rest, put-law, put-mid}
 use Rattle.words.proofs.EqLaws.{eq-left}
 use Rattle.words.proofs.MulStep.{row-cost}
@@ -73,12 +72,6 @@ module _ (w : ℕ) (addrs val : List ℕ) (a : ℕ) (mem mem' : List ℕ) where
   pub write-unlisted : None ≡ found (length addrs) (is_at addrs a) → mem ≡ write_known (length addrs) w addrs a val mem
   unfolding write_known pick
   write-unlisted e = rw (le-ltb (first (length addrs) (is_at addrs a)) (length addrs) (none_first (is_at addrs a) (length addrs) e))
-
--- w places filled with known false
-pub clear-path : (w : ℕ) (out filled : List ℕ) → w ≤ 64 → w ≤ length out → filled ≡ replicate (length (take w out)) 0 → filled ++ drop w out ≡ cleared w out
-clear-path w out filled small fits e =
-    let m : Put 0 blank out w (cleared w out) = put-law 0 blank out w (omega arith) in
-    rw (e, length-take-le w out fits) (ext_get_or 0 _ _ (search (rules, places, m.long)) (λ i l. grind (arith, places, m.long, m.there i, m.above i, blank-at i)))
 
 -- a word made over any other is the same
 module _ (op : Bitwise) (left right : List ℕ) (s : Net) (o o' : List ℕ) where

@@ -10,6 +10,15 @@ use table::sheet::find;
 use words::each;
 use words::each::Bitwise;
 
+// The result at first, and where an address is not listed: known false.
+#[tactic(auto, using(words::proofs::EachLaws::fill_path))]
+fn clear(out: &mut [u32], w: usize)
+    requires { (w ≤ 64) × (w ≤ length out.old) }
+    ensures { out.new ≡ cleared w out.old }
+{
+    out[..w].fill(0);
+}
+
 // Read at a known address: one word is copied, if it is listed.
 fn read_known(addrs: &[u64], mem: &[u32], a: u64, w: usize, out: &mut [u32])
     requires { (length addrs.now * w ≤ length mem.now) × (w ≤ 64) × (w ≤ length out.old) }
@@ -20,16 +29,7 @@ fn read_known(addrs: &[u64], mem: &[u32], a: u64, w: usize, out: &mut [u32])
         each::put_bits(out, 0, &mem[from..from + w], w);
         return;
     }
-    let zeros = [0u32; 65];
-    each::put_bits(out, 0, &zeros, w);
-}
-
-// The result at first: known false.
-fn clear(out: &mut [u32], w: usize)
-    requires { (w ≤ 64) × (w ≤ length out.old) }
-    ensures { out.new ≡ cleared w out.old }
-{
-    out[..w].fill(0);
+    clear(out, w);
 }
 
 // Read at one listed address, a, whose word is given, onto the result.

@@ -1,14 +1,14 @@
 -- The law of a word that is made bit by bit, once for every operation and every width.
 use mathlib.Core.Path.{◌≡◌, refl, ap, ◌∙◌}
-use mathlib.Core.List.{List}
+use mathlib.Core.List.{List, ◌++◌}
 use Prim.Native.Nat.{ℕ, suc, ◌+◌, ◌-◌, ◌*◌, ◌≤◌, ◌<◌}
 use native.Mathlib.Omega.{arith}
 use native.Mathlib.Decide.{dec_lt}
 use lib.Dec.{eqb}
-use lib.ListN.{length, get_or, set, take, length-set}
+use lib.ListN.{length, get_or, set, take, drop, replicate, length-set}
 use borrow.Rule.Slice.PartMut.{put_mid}
 use Rattle.std.proofs.Common.{rules}
-use Rattle.std.proofs.lemmas.List.{places, ext_get_or}
+use Rattle.std.proofs.lemmas.List.{places, ext_get_or, length-take-le}
 use lib.Seq.{get_or-set_same, get_or-set_other}
 use Rattle.loops.specs.Loop.{pick}
 use Rattle.loops.proofs.Loop.{iter-inv}
@@ -22,6 +22,8 @@ use Rattle.digits.specs.Digits.{Below}
 use Rattle.words.specs.declared.each.Bitwise.{Bitwise}
 use Rattle.words.specs.declared.each.Bitwise.TheVariants.{Not, And, Or, Xnor, AndWith, Choose, Clear}
 use Rattle.words.specs.Each.{bitwise, bit_value, bit_cost, bit_below, Word, each_step, each_bit, each_cost, EachLaw, copy_step, put_bits, Put}
+use Rattle.words.specs.Num.{filled}
+use Rattle.words.proofs.NumLaws.{filled-at}
 use Rattle.words.proofs.Sums.{sum-suc, sum-most}
 
 -- each operation's law, under one name
@@ -202,3 +204,9 @@ pub put-mid : (from : ℕ) (bits map part : List ℕ) (w k : ℕ) → from + w �
 put-mid from bits map part w k h g q p =
     let m = put-law from bits map w h in
     rw (q, p) (ext_get_or 0 _ _ (search (rules, places)) (λ i l. grind (arith, places, m.long, m.there (i - from), m.below i, m.above i)))
+
+-- the first w places of a list, each with the bit b
+pub fill_path : (b w : ℕ) (map bits : List ℕ) → w ≤ 64 → w ≤ length map → bits ≡ replicate (length (take w map)) b → bits ++ drop w map ≡ put_bits 0 (filled b) w map
+fill_path b w map bits small fits e =
+    let m : Put 0 (filled b) map w (put_bits 0 (filled b) w map) = put-law 0 (filled b) map w (omega arith) in
+    rw (e, length-take-le w map fits) (ext_get_or 0 _ _ (search (rules, places, m.long)) (λ i l. grind (arith, places, m.long, m.there i, m.above i, filled-at b i)))

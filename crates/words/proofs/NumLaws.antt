@@ -8,6 +8,7 @@ use native.Mathlib.Nat.{pow-suc}
 use native.Mathlib.Numerals.{add-one}
 use lib.Dec.{eqb}
 use lib.ListN.{length, get_or, replicate, length-replicate}
+use Rattle.std.proofs.lemmas.List.{get_or-replicate}
 use Rattle.loops.specs.Loop.{bit, pick}
 use Rattle.netlist.specs.Net.{Net, Assign, Obeys}
 use Rattle.digits.specs.Digits.{digit, number, Below, known_bits, known_number}
@@ -75,6 +76,10 @@ num-choose e false out t f w h = number_same (λ i. e (get_or out i 0)) (λ i. e
 pub filled-long : (b : ℕ) → length (filled b) ≡ 65
 unfolding filled
 filled-long b = length-replicate {A = ℕ} 65 b
+
+pub filled-at : (b j : ℕ) → j < 65 → get_or (filled b) j 0 ≡ b
+unfolding filled
+filled-at b j l = get_or-replicate 65 j b 0 l
 
 pub blank-long : length blank ≡ 65
 blank-long = filled-long 0

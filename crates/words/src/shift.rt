@@ -17,8 +17,8 @@ pub enum Direction {
     Right,
 }
 
-#[tactic(auto, unfolding(crate::specs::Shift::moved))]
 // The w bits of a word moved by k places, over known false bits.
+#[tactic(auto, unfolding(crate::specs::Shift::moved))]
 fn move_bits(to: Direction, bits: &[u32], w: usize, k: usize, out: &mut [u32])
     requires { (k ≤ w) × (w ≤ length bits.now) × (w ≤ length out.old) }
     ensures { out.new ≡ moved to w k bits.now out.old }

@@ -1,7 +1,6 @@
 use mathlib.Core.Path.{sym, ◌∙◌}
 use native.Mathlib.Omega.{arith}
 use borrow.Author.Rules.{rules}
-use Rattle.words.specs.Num.{filled}
 use Rattle.memory.proofs.Paths.{listed-end, read-listed, read-unlisted}
 use Rattle.memory.proofs.read.read_known.Goals as goal
 
@@ -21,5 +20,4 @@ pub returns-in-Some : goal.returns-in-Some
 returns-in-Some c = read-listed _ _ _ _ _ _ _ (sym c.in-Some.is ∙ c.find.ensures) c.put_bits.ensures
 
 pub returns : goal.returns
-unfolding filled
 returns c = search (rules, read-unlisted)

@@ -5,6 +5,3 @@ use Rattle.words.proofs.add.add_words.Goals as goal
 
 pub add_onto-requires : goal.add_onto-requires
 add_onto-requires c = omega (arith, add-words-room c.args.left.now c.args.right.now c.args.list.now c.args.out.now _ c.args.w c.put_bits.ensures c.requires.w_in_bounds.2 c.args.carry)
-
-pub returns-clause-made : goal.returns-clause-made
-returns-clause-made c = search (rules, add-words-path)

@@ -18,6 +18,3 @@ mul_step-requires c =
 
 pub loop-i-preserved : goal.loop-i-preserved
 loop-i-preserved c = search (rules, loop-more)
-
-pub returns-clause-made : goal.returns-clause-made
-returns-clause-made c = search (rules, mul-words-path)
