@@ -1,7 +1,5 @@
-use Prim.Native.Nat.{◌+◌, ◌/◌}
 use borrow.Author.Rules.{rules}
 use native.Mathlib.Omega.{arith}
-use lib.ListN.{length, length-set}
 use Rattle.loops.proofs.Loop.{loop-none, loop-more}
 use Rattle.table.proofs.size.Laws.{sum-none, sum_more, store_step, store-last, store-end}
 use Rattle.table.proofs.size.offsets.Goals as goal

@@ -1,6 +1,5 @@
-use borrow.Author.Rules.{rules}
 use native.Mathlib.Omega.{arith}
-use Rattle.words.proofs.Paths.{add-words-room, add-words-path}
+use Rattle.words.proofs.Paths.{add-words-room}
 use Rattle.words.proofs.add.add_words.Goals as goal
 
 pub add_onto-requires : goal.add_onto-requires

@@ -2,7 +2,7 @@ use borrow.Author.Rules.{rules}
 use native.Mathlib.Omega.{arith}
 use Rattle.loops.proofs.Loop.{loop-none, loop-more}
 use Rattle.words.specs.Each.{word_of}
-use Rattle.words.proofs.Paths.{mul_most, mul-words-path}
+use Rattle.words.proofs.Paths.{mul_most}
 use Rattle.words.proofs.mul.mul_words.Goals as goal
 
 pub loop-i-init : goal.loop-i-init

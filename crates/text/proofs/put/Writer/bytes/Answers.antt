@@ -1,5 +1,5 @@
 use mathlib.Core.Path.{refl}
-use Rattle.text.proofs.Puts.{bytes-none, bytes-more, bytes-done}
+use Rattle.text.proofs.Puts.{bytes-none, bytes-more}
 use borrow.Author.Rules.{rules}
 use Rattle.text.proofs.put.Writer.bytes.Goals as goal
 
@@ -8,6 +8,3 @@ loop-b-init c = record { same = refl; after = search (rules, bytes-none) }
 
 pub loop-b-preserved : goal.loop-b-preserved
 loop-b-preserved c = record { same = search rules; after = search (rules, bytes-more) }
-
-pub returns-clause-after : goal.returns-clause-after
-returns-clause-after c = search (rules, bytes-done)

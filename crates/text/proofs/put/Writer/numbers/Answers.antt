@@ -1,5 +1,5 @@
 use mathlib.Core.Path.{refl}
-use Rattle.text.proofs.Puts.{numbers-none, numbers_more, numbers-done}
+use Rattle.text.proofs.Puts.{numbers-none, numbers_more}
 use borrow.Author.Rules.{rules}
 use Rattle.text.proofs.put.Writer.numbers.Goals as goal
 
@@ -8,6 +8,3 @@ loop-n-init c = record { same = refl; after = search (rules, numbers-none) }
 
 pub loop-n-preserved : goal.loop-n-preserved
 loop-n-preserved c = record { same = search rules; after = search (rules, numbers_more) }
-
-pub returns-clause-after : goal.returns-clause-after
-returns-clause-after c = search (rules, numbers-done)
