@@ -19,7 +19,8 @@ impl GateList<'_> {
         }
     }
 
-    // And and Or are each written out: one function of the gate's kind and the value that decides, with these two as its calls, is no shorter, and its contract would have to say both.
+    // And and Or are each written out: one function of the gate's kind and the value that decides, with these two as its calls, is no shorter, and
+    // its contract would have to say both.
     #[tactic(auto, using(crate::proofs::Paths::steps), unfolding(crate::specs::Fold::and_bit, netlist::specs::Bit::by_known))]
     pub fn and_bit(&mut self, a: u32, b: u32) -> u32
         requires { Fits self.old 1 }

@@ -16,12 +16,6 @@ returns-then-not-asks c = record {
   marks_after = unasked-marks _ _ _ _;
 }
 
-pub lower_clear-requires : goal.lower_clear-requires
-lower_clear-requires c = record {
-  word_value = clear-asked (source c.args.table.now c.args.addrs.now c.args.word) c.args.gates.now c.args.constraints.now c.args.map.now (search rules) _ c.asks.ensures (search rules);
-  in_bounds = c.requires;
-}
-
 pub returns : goal.returns
 returns c = record {
   promise =

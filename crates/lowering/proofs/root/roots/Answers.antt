@@ -9,9 +9,6 @@ use Rattle.lowering.proofs.root.roots.Goals as goal
 pub loop-k-init : goal.loop-k-init
 loop-k-init c = record { same = search rules; marks = c.requires.marked; goes = c.requires; made = search (rules, loop-none) }
 
-pub root_step-requires : goal.root_step-requires
-root_step-requires c = (c.loop-k.invariant.goes, omega (arith, c.loop-k.invariant.marks))
-
 pub loop-k-preserved : goal.loop-k-preserved
 loop-k-preserved c = record {
   same = search rules;
