@@ -29,7 +29,8 @@ pub struct Here<'a> {
 }
 
 // So many words, each so wide, from an offset on. The kinds that make word after word have a loop each: one function over a closure
-// would say each kind's law once more, as the clause of its closure, for the two lines of a loop.
+// would say each kind's law once more, as the clause of its closure, for the two lines of a loop. So too where a word is made apart and then
+// put into the map.
 #[derive(Clone, Copy)]
 pub struct Place {
     pub off: usize,

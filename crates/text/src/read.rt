@@ -17,7 +17,7 @@ pub const LONGEST: usize = 72858;
 // Numbers of a node's record.
 const NODE_SIZE: usize = 6;
 
-// The word width, and how many addresses and nodes there are.
+// The word width, and how many addresses and nodes there are: they lie in the two lent buffers.
 #[derive(Clone, Copy)]
 pub struct Table {
     pub word: u64,

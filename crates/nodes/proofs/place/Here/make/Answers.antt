@@ -11,12 +11,6 @@ share_node-requires c =
     (sym c.is_given.ensures ∙ c.if-is_given.false) (sym c.shares.ensures ∙ c.if-shares.true) in
     record { stands = c.requires.0.stands; le_x = (h.some, h.less, h.words) }
 
-pub word_node-requires : goal.word_node-requires
-word_node-requires c = (
-  c.requires.0,
-  plainly c.args.self.now.node (sym c.is_given.ensures ∙ c.if-is_given.false) (sym c.shares.ensures ∙ c.if-shares.false) (search rules) c.requires.1 (search rules) (search rules),
-)
-
 pub returns-then-is_given-clause-made : goal.returns-then-is_given-clause-made
 returns-then-is_given-clause-made c =
     input-made (source_of c.args.self.now.laid) c.args.self.now.laid.offs.now _ c.args.self.now.k c.requires.0.stands c.args.self.now.node c.args.self.now.is _ _ _ _
