@@ -107,8 +107,5 @@ known_both w num den kn kd ln ld en ed h =
     let b = both kn kd h in
     (all_true num w (sym (rw ln at en) ∙ b.0), all_true den w (sym (rw ld at ed) ∙ b.1))
 
-pub known-below : (w : ℕ) (bits : List ℕ) → length bits ≡ w → Below 2 bits w → Below 2 bits (length bits)
-known-below w bits e b = rw e b
-
 -- what `grind` has to know at each call, beside std's rules
 pub ruleset steps = (each-count, row-upto, xnors-upto, xnors-cost, onto-upto, pair-count, rows-upto, rows-count, sum-words-upto, sum-words-count, words-upto, raised-upto, zero-upto, zero-cost, row-cost, chain-three, choose-cost, blank-long)

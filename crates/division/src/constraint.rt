@@ -2,7 +2,7 @@
 ghost use Rattle.std.specs.Prelude.{◌≡◌, ◌+◌, ◌*◌, ◌≤◌, ◌<◌, length};
 ghost use Rattle.division.specs.Constraint.{con_used, con_gate, con_value, cons_in, constrain, constrain_each, ConFits, SameCons};
 
-// Gate and value of a constraint.
+// Gate and value of a constraint: numbers, which C reads.
 #[derive(Clone, Copy)]
 pub struct Constraint {
     pub gate: u32,
@@ -24,6 +24,7 @@ pub fn constraint_at(cons: &[u32], j: usize) -> Constraint
 
 // The list that is being made: a lent buffer, and how many constraints of it are in use. It has a type beside `GateList`: the numbers of a
 // record, how one is written and what is then known differ, and what is left alike is these two fields.
+// `same` is as `GateList`'s.
 #[derive(Drop)]
 pub struct ConstraintList<'a> {
     pub pairs: &'a mut [u32],

@@ -11,7 +11,7 @@ use crate::lists::Lists;
 use crate::{check, pair, zero};
 
 // What is asked: the quotient, or the remainder, of two words of w bits, for a node. Which of the two is a bool, as in the definitions
-// (`chosen`, `answer_of`) and in the theorems on them.
+// (`chosen`, `answer_of`) and in the theorems on them. The bounds of w are no invariant: put_zero asks least, and what others add differs.
 #[derive(Clone, Copy)]
 pub struct Division<'a> {
     pub quotient: bool,

@@ -1,4 +1,5 @@
-// Unsigned division: quotient and remainder as free gates, and the constraints that they obey. A width stands beside its slices, as in `words`.
+// Unsigned division: quotient and remainder as free gates, and the constraints that they obey.
+// A width stands beside its slices, and its bounds in the clauses, as in `words`: the definitions take it so.
 #![tactic(auto)]
 
 pub mod check;

@@ -1,4 +1,5 @@
-// What a lowering makes: gates and constraints, each in a lent buffer of its own.
+// What a lowering makes: gates and constraints, each in a lent buffer of its own. The bit map is no field here: lent behind one `&mut`, one field
+// cannot be read while another is written (tried), so it stands beside.
 use crate::constraint::ConstraintList;
 use gates::list::GateList;
 

@@ -34,9 +34,6 @@ module _ {A : Type 0} (f : ℕ → A → A) (s x : A) where
   unfolding iter
   loop-more y i e h = rw add-one (h ∙ ap (f i) e)
 
-  pub loop-done : (i w : ℕ) → w ≤ i → i ≤ w → x ≡ iter i f s → x ≡ iter w f s
-  loop-done i w h k e = let q : w ≡ i = omega arith in rw q e
-
 -- what a `for` asks whose state is `iter`: name it at the function, `using(loops::proofs::Loop::for_loop)`
 pub ruleset for_loop = (loop-none, loop-more)
 

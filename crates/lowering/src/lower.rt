@@ -13,7 +13,7 @@ use nodes::place::Laid;
 use table::sheet::{asks, check_table};
 use table::{Fault, Unit};
 
-// How many gates and constraints a lowering has made.
+// How many gates and constraints a lowering has made in the lent buffers.
 #[derive(Clone, Copy, Debug, PartialEq, Eq)]
 pub struct Done {
     pub gates: usize,
@@ -64,7 +64,8 @@ impl OnSheet for Refusal {
     }
 }
 
-// With room for the sums. (Table and buffers stay parameters of their own: C lends them one by one.)
+// With room for the sums. (Table and buffers stay parameters of their own, as C lends them to `lower`: the clauses speak of each buffer before and
+// after, and a struct over them would add a clause `same` for each.)
 fn lower_room(
     table: &[u64],
     addrs: &[u64],

@@ -21,7 +21,7 @@ use std::mem;
 use table::field::node_at;
 use table::kind::BAD;
 
-// What the places of a node that is not reached hold.
+// What the places of a node that is not reached hold: a number of the map, which C reads.
 const UNREACHED: u32 = u32::MAX;
 
 // Node k, if it is bad.

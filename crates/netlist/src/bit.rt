@@ -1,5 +1,5 @@
-// A bit is the number of a gate. Gates 0 and 1 are the two constants, so a bit that is one of them is known. Where a bit is a constant, the code
-// says 0 or 1, as the definitions do.
+// A bit is the number of a gate. Gates 0 and 1 are the two constants, so a bit that is one of them is known. Where words, division
+// and nodes need a constant bit they write 0 or 1, as their definitions do.
 ghost use Rattle.std.specs.Prelude.{◌≡◌, ℕ, ◌<◌};
 ghost use Rattle.loops.specs.Loop.{bit};
 ghost use Rattle.netlist.specs.Bit.{known_of, is_known};

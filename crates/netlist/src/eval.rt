@@ -1,4 +1,5 @@
-// The gate evaluator: one byte a gate, 0 or 1; free gates are given, the others are worked out.
+// The gate evaluator: one byte a gate, 0 or 1; free gates are given, the others are worked out. Gates and values are two parameters, and values
+// bytes, as C lends them.
 ghost use Rattle.std.specs.Prelude.{◌≡◌, ℕ, ◌+◌, ◌≤◌, ◌<◌, length};
 ghost use Rattle.loops.specs.Loop.{found, iter};
 ghost use Rattle.netlist.specs.Record.{Room, records};

@@ -29,7 +29,7 @@ pub fn gate_at(gates: &[u32], i: usize) -> Gate
     }
 }
 
-// The one function that writes a record.
+// The one function that writes a record: number by number, which says their order.
 #[tactic(auto, unfolding(crate::specs::Record::put))]
 pub fn put_gate(gates: &mut [u32], i: usize, g: Gate)
     requires { Room gates.old (i + 1) }

@@ -1,4 +1,5 @@
-// The own step of a node: its gates and bits, kind by kind. A width stands beside its slices, as in `words`.
+// The own step of a node: its gates and bits, kind by kind. A width stands beside its slices, as in
+// `words`; the kinds that make word after word have a loop each (place.rt says why).
 #![tactic(auto)]
 
 pub mod choose; // an ite with an unknown condition

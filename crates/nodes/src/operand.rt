@@ -8,7 +8,7 @@ use netlist::record::Gate;
 use table::Node;
 use table::kind::ITE;
 
-// The bit of an ite's condition; 0 for another kind. (0 here and below is the table's own word for no operand, and the definitions say it so.)
+// The bit of an ite's condition; 0 for another kind, as the clause has it. (Below, 0 is the table's own number for no operand.)
 #[tactic(auto, unfolding(loops::specs::Loop::pick))]
 pub fn condition(offs: &[usize], map: &[u32], node: Node) -> u32
     requires { node.kind ≡ kinds.ITE → (node.a < length offs.now) × (get_or offs.now node.a 0 < length map.now) }

@@ -9,8 +9,8 @@ ghost use Rattle.nodes.specs.Asked.{place_of};
 use table::Node;
 use table::field::width_at;
 
-// A table, its listed addresses and its word width, and where each node's bits begin. What is asked of it speaks of the map and the lists
-// that are made too, so it stands in the contracts (`Stands`, `Makes`, `Owns`, `Goes`).
+// A table, its listed addresses and its word width, and where each node's bits begin. What is asked of it stands in the contracts
+// (`Stands`, `Makes`, `Owns`, `Goes`): these are definitions over a `Source` and what is made of it, and the theorems speak in them too.
 #[derive(Clone, Copy)]
 pub struct Laid<'a> {
     pub table: &'a [u64],

@@ -14,6 +14,7 @@ use memory::read;
 use words::each;
 
 // The memory's bits stand in the map from `mem` on, the address's from `adr` on; the word goes to the places from `to` on.
+// (A place of one word, here and in plain.rt, is an offset and a width: `Place` is of many.)
 #[tactic(auto, unfolding(crate::specs::Place::placed, crate::specs::Place::reading, words::specs::Num::filled))]
 pub fn read_at(
     list: &mut GateList,

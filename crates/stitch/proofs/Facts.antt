@@ -195,12 +195,13 @@ module _ (S : Source) (g1 c1 m1 z0 : List ℕ) (eg : g1 ≡ gate_buffer) (ec : c
       used-fits = (omega (arith, of.gates), omega (arith, of.constraints, kc), omega (arith, of.constraints), kg)
 
       pub done-asks : (k : ℕ) (mg : List ℕ) → mg ≡ take k g
-          → Accepted S g c m × (Room g b.gates × (constraint_size * b.constraints ≤ length c)) × lent.Done S mg (take (constraint_size * b.constraints) c) m z
+          → Accepted S g c m × (Room g b.gates × (constraint_size * b.constraints ≤ length c)) × ((length g ≡ used GATES) × (length c ≡ constraint_size * CONSTRAINTS)) × lent.Done S mg (take (constraint_size * b.constraints) c) m z
       done-asks k mg e =
           let x : length mg ≤ length g = rw (e, length-take k g) (omega arith) in
           let y : length (take (constraint_size * b.constraints) c) ≡ constraint_size * b.constraints = length-take-le (constraint_size * b.constraints) c used-fits.2 in (
             record { clear = of.accepted.clear; asked = of.accepted.asked; gates = omega (arith, of.accepted.gates); map = omega (arith, of.accepted.map); constraints = omega (arith, of.accepted.constraints) },
             (used-fits.0, used-fits.2),
+            (kg, kc),
             record {
               clear = of.accepted.clear;
               gates = omega (arith, kg);

@@ -26,7 +26,7 @@ pub fn answer(text: &[u8], out: &mut [u8]) -> usize
         },
     ) = read_text(text, &mut addrs, &mut nodes)
     else {
-        return write_refused(1, 0, out);
+        return write_refused(1, 0, out); // the sheet's first number: there is no table that has a fault
     };
     let end = 6 * m;
     let source = Source {

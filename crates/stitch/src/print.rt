@@ -14,7 +14,8 @@ use text::write::{write, write_refused};
 // Room for 4,096 gates.
 const GATE_NUMBERS: usize = 4096 * record::SIZE;
 
-// A table as it was read: its nodes, six numbers each, the listed addresses and the word width.
+// A table as it was read: its nodes, six numbers each, the listed addresses and the word width. (Nothing is known of it yet, as it is of `Layout`
+// and `Laid`.)
 #[derive(Clone, Copy)]
 pub struct Source<'a> {
     pub nodes: &'a [u64],

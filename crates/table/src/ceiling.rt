@@ -10,6 +10,7 @@ use crate::size::{Listing, times};
 use crate::{Node, Sums, Unit};
 use digits::powers_below;
 
+// That widths are at most 64 and sums small stands in the clauses of this file's inner functions: a type would be made and taken apart at each call.
 #[tactic(auto, unfolding(crate::specs::Ceiling::div_gates))]
 fn div_gates(v: u64) -> u64
     requires { v ≤ 64 }
@@ -113,7 +114,8 @@ fn constraint_ceiling(node: Node) -> u64
     0
 }
 
-// The constraints of node i + 1. Narrow speaks of a lent table's numbers, so it stands in each contract.
+// The constraints of node i + 1. (Narrow is no type's: three inner functions ask it, and `offsets`, which docs/STATEMENTS.md names and which takes
+// the table alone.)
 #[tactic(auto, unfolding(crate::specs::Ceiling::node_constraints))]
 fn node_constraints(table: &[u64], i: usize) -> u64
     requires { (i < 512) × Narrow table.now }

@@ -4,7 +4,7 @@ ghost use Rattle.table.specs.Node.{field_at, node_at, given};
 use crate::Node;
 use crate::kind::{INPUT, STATE};
 
-// Field k of node i, of any table: 0 where there is none.
+// Field k of node i, of any table: 0 where there is none, and no Option, here and below, since the definitions are total.
 #[tactic(auto, unfolding(crate::specs::Node::field_at, loops::specs::Loop::pick))]
 fn field(table: &[u64], i: usize, k: usize) -> u64
     requires { k < 6 }

@@ -8,7 +8,7 @@ use native.Mathlib.Decide.{dec_lt}
 use native.Mathlib.Numerals.{add-one}
 use lib.Dec.{eqb, ltb, leb}
 use lib.ListN.{length, get_or, take, drop, length-append, get_or-append}
-use lib.Seq.{take-suc, take_all}
+use lib.Seq.{take-suc}
 use Rattle.std.proofs.lemmas.List.{take-append-drop}
 use borrow.Author.Tests.{lt-ltb, le-ltb, le-leb, lt-leb, eq-eqb, ne_eqb, eqb-true, eqb-false, leb-true, ltb-true}
 use Rattle.loops.specs.Loop.{pick}
@@ -81,9 +81,6 @@ module _ (s : List ℕ) where
     number_stops r f g =
         let z : number_from (Some 0) (take (suc i) s) ≡ None = rw (take-suc s i 0 h, number-last (Some 0) (take i s) (get_or s i 0), ← e, ← q) (sym f ∙ g) in
         sym (rw (take-append-drop (suc i) s) at (number-append (Some 0) (take (suc i) s) (drop (suc i) s) ∙ ap (λ n. number_from n (drop (suc i) s)) z ∙ bad-stays (drop (suc i) s)))
-
-  pub number-done : (i : ℕ) (n : Option ℕ) → length s ≤ i → n ≡ number_from (Some 0) (take i s) → n ≡ number_from (Some 0) s
-  number-done i n h e = rw (take_all i s h) at e
 
   pub number_empty : length s ≡ 0 → None ≡ number s
   unfolding number pick

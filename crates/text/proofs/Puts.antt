@@ -7,7 +7,7 @@ use native.Mathlib.Omega.{arith}
 use native.Mathlib.Numerals.{add-one}
 use lib.Dec.{ltb}
 use lib.ListN.{length, get_or, take, set, length-set}
-use lib.Seq.{take-suc, take_all, sets}
+use lib.Seq.{take-suc, sets}
 use borrow.Author.Tests.{lt-ltb, le-ltb}
 use Rattle.loops.specs.Loop.{pick}
 use Rattle.text.specs.Number.{digits, decimal}
@@ -69,9 +69,6 @@ module _ (t : Text) (s : List ℕ) where
   pub bytes-more : (u v : Text) (i : ℕ) → i < length s → u ≡ put t (take i s) → v ≡ push u (get_or s i 0) → v ≡ put t (take (i + 1) s)
   bytes-more u v i h e f = rw (add-one, take-suc s i 0 h, ← put_last t (take i s) (get_or s i 0), ← e) f
 
-  pub bytes-done : (u : Text) (i : ℕ) → length s ≤ i → u ≡ put t (take i s) → u ≡ put t s
-  bytes-done u i h e = rw (take_all i s h) at e
-
 numbers-last : (s : List ℕ) (n : ℕ) → numbers (s ++ (n ∷ [])) ≡ numbers s ++ (9 ∷ decimal n)
 unfolding numbers
 numbers-last [] n = append-nil (9 ∷ decimal n)
@@ -88,9 +85,6 @@ module _ (t : Text) (s : List ℕ) where
 
   pub numbers_more : (u v : Text) (i n : ℕ) → i < length s → u ≡ put t (numbers (take i s)) → n ≡ get_or s i 0 → v ≡ put u (9 ∷ decimal n) → v ≡ put t (numbers (take (i + 1) s))
   numbers_more u v i n h e w f = rw (add-one, take-suc s i 0 h, numbers-last (take i s) (get_or s i 0), ← put-append t (numbers (take i s)) (9 ∷ decimal (get_or s i 0)), ← e, ← w) f
-
-  pub numbers-done : (u : Text) (i : ℕ) → length s ≤ i → u ≡ put t (numbers (take i s)) → u ≡ put t (numbers s)
-  numbers-done u i h e = rw (take_all i s h) at e
 
 module _ (t : Text) (n : ℕ) (v : Text) where
   pub digits-small : n < 10 → v ≡ push t (48 + n) → PutDigits t n v

@@ -24,9 +24,6 @@ module _ (f : ℕ → List ℕ) (t : Text) where
   unfolding each
   each_more u v i e h = rw (add-one, ← put-append t (each i f) (f i), ← e) h
 
-  pub each-done : (u : Text) (i n : ℕ) → n ≤ i → i ≤ n → u ≡ put t (each i f) → u ≡ put t (each n f)
-  each-done u i n h k e = let q : n ≡ i = omega arith in rw q e
-
 pub gate-put : (gates : List ℕ) (i o e : ℕ) (t u : Text) → o ≡ used i → e ≡ used (i + 1) → u ≡ put t (line gate_name (i ∷ part o e gates)) → u ≡ put t (gate_line gates i)
 unfolding gate_line
 gate-put gates i o e t u p q h = rw (p, q) at h

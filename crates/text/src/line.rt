@@ -5,7 +5,7 @@ ghost use Rattle.text.specs.NodeLine.{numbers_of, node_fields, node_line};
 
 use crate::field::{kind_field, last_number, name_field, number_field};
 
-// A node's record: text leans on no table, so it has a type of its own.
+// A node's record. (Not `table`'s: for one struct text would lean on two crates more.)
 #[derive(Clone, Copy)]
 pub struct Node {
     pub kind: u64,

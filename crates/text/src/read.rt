@@ -49,7 +49,8 @@ fn store(nodes: &mut [u64], n: usize, node: Node)
     nodes[start..start + NODE_SIZE].copy_from_slice(&record);
 }
 
-// The node lines that a text begins with, until one is none or the room is used up: how many, and the lines after them.
+// The node lines that a text begins with, until one is none or the room is used up: how many, and the lines after them. (A loop beside read_addrs':
+// one for both would take two closures with a clause each, what is read and where it is stored, and be longer.)
 fn read_nodes<'a>(text: &'a [u8], nodes: &mut [u64]) -> (usize, &'a [u8])
     ensures { filled nodes.new result.0 (rows result.1.now) ≡ fill node_size is_node node_of nodes.old 0 (rows text.now) }
 {

@@ -34,6 +34,7 @@ fn gate_line(lines: &mut Writer, gates: &[u32], i: usize)
     lines.numbered(b"gate", i as u64, &gates[o..e]);
 }
 
+// A line for each gate; below, for each node and each constraint. A loop each: a closure would say the line's clause once more.
 fn gate_lines(lines: &mut Writer, gates: &[u32])
     ensures after { so_far lines.new ≡ put (so_far lines.old) (each (gate_count gates.now) (gate_line gates.now)) }
     ensures same { lines.new.out.ghost_name ≡ lines.old.out.ghost_name }

@@ -74,7 +74,7 @@ impl Layout<'_> {
     }
 }
 
-// A table without fault. The offsets are worked out once, into a list that is lent for it.
+// A table without fault (table, addresses and width as C lends them). The offsets are worked out once, into a list that is lent for it.
 #[tactic(auto, using(crate::proofs::eval::Laws::clear_rules))]
 fn eval_clear(
     table: &[u64],

@@ -10,14 +10,14 @@ use table::sheet::find;
 use table::size::Listing;
 use table::{Node, Unit};
 
-// A slot of any buffer; 0 where there is none.
+// A slot of any buffer; 0 where there is none, as the definition has it.
 pub fn at(values: &[u64], i: usize) -> u64
     ensures { result ≡ slice_index values.now i }
 {
     values.get(i).copied().unwrap_or(0)
 }
 
-// The slots of a node.
+// The slots of a node. (That at most 64 addresses are listed stands in the clauses: `slot_at`, which docs/STATEMENTS.md names, takes them alone.)
 pub fn slots_of(addrs: &[u64], node: Node) -> usize
     requires { (length addrs.now ≤ 64) × (node.width ≤ 64) }
     ensures { (result ≡ size_of Unit.Slot (length addrs.now) 0 node.width) × (result ≤ 64) }

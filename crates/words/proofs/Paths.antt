@@ -23,7 +23,7 @@ use Rattle.words.specs.Sub.{sub_words, sub_cost, ult_words}
 use Rattle.words.specs.Extend.{extended}
 use Rattle.words.specs.Join.{Joins, join_step, join_all}
 use Rattle.words.specs.Eq.{eq_words, eq_cost}
-use Rattle.words.specs.Mul.{row_of, mul_step, mul_words, mul_cost}
+use Rattle.words.specs.Mul.{row_of, mul_step, mul_cost}
 use Rattle.words.specs.Shift.{moved, stage, shift_words, shift_cost}
 use Rattle.words.proofs.Sums.{sum-within}
 use Rattle.words.proofs.EachLaws.{each-ext, each-rest, put-law}
@@ -84,10 +84,6 @@ module _ (from : ℕ) (right : List ℕ) (s : Chain) (t : GateList) (out : List 
 module _ (left right : List ℕ) (t : GateList) (out out₁ : List ℕ) (w : ℕ) (p : out₁ ≡ put_bits 0 left w out) where
   pub add-words-room : w ≤ length out → (c : ℕ) → chain_cost 0 out₁ right w ≤ add_cost left right w
   add-words-room h c = rw p (copied-cost left right (chain_of t c out) w h)
-
-  pub add-words-path : (t₂ : GateList) (out₂ : List ℕ) (c c₂ : ℕ) → chain_of t₂ c₂ out₂ ≡ add_onto 0 right w (chain_of t c out₁)
-      → chain_of t₂ c₂ out₂ ≡ add_words w left right (chain_of t c out)
-  add-words-path t₂ out₂ c c₂ q = q ∙ ap (λ (l : List ℕ). add_onto 0 right w (chain_of t c l)) p
 
 -- the Nots, and the chain over them
 module _ (left right : List ℕ) (t t₁ : GateList) (nots : List ℕ) (w : ℕ) (e : word_of t₁ nots ≡ each_bit Not right right w (word_of t blank)) where
@@ -164,9 +160,6 @@ module _ (w : ℕ) (left right : List ℕ) (s : Word) (out₀ : List ℕ) (small
   pub mul_most : (t : GateList) (out : List ℕ) (i : ℕ) → i < w → word_of t out ≡ iter i (mul_step w left right) (record { net = s.net; out = out₀ })
       → t.n + 4 * (w - i) ≤ s.net.n + mul_cost w
   mul_most t out i l e = omega (arith, ap (λ (x : Word). x.net.n) (rw p at e), rows-room w left right s (omega arith) fits i l)
-
-  pub mul-words-path : (x : Word) → x ≡ iter w (mul_step w left right) (record { net = s.net; out = out₀ }) → x ≡ mul_words w left right s
-  mul-words-path x e = rw p at e
 
 -- a stage: the places by a shift of one, and the choice
 module _ (w j : ℕ) (small : w ≤ 64) (lt : j < powers_below w) where

@@ -64,7 +64,7 @@ print_done-requires c =
     let d =
     done-asks (source t.nodes.now t.addrs.now t.word) _ _ _ _ refl refl refl refl _ _ _ _ _ (l.ensures.promise, l.ensures.marks_after) _
     c.in-Ok.is l.auto.gates l.auto.constraints l.auto.map l.auto.marks (used c.in-Ok.done.gates) _ c.part.ensures in
-    record { done = d.2; in_bounds = c.requires }
+    record { done = d.3; in_bounds = c.requires }
 
 pub returns-in-Ok : goal.returns-in-Ok
 unfolding cleared
