@@ -45,15 +45,20 @@ impl ConstraintList<'_> {
         self.m += 1;
     }
 
-    // The same value for each of the first k bits of a word.
+    // The same value for each of the first k bits of a word. (`here`: as in `words`' each_bit.)
     #[tactic(auto, using(crate::proofs::Paths::steps), unfolding(crate::specs::Constraint::con_step))]
     pub fn put_each(&mut self, bits: &[u32], value: u32, k: usize)
         requires { ConFits self.old k × (k ≤ length bits.now) }
         ensures same { SameCons self.old self.new }
         ensures put { cons_in self.new ≡ constrain_each bits.now value k (cons_in self.old) }
     {
+        let mut here = ConstraintList {
+            pairs: &mut *self.pairs,
+            m: self.m,
+        };
         for j in 0..k {
-            self.put(bits[j], value);
+            here.put(bits[j], value);
         }
+        self.m = here.m;
     }
 }

@@ -31,9 +31,10 @@ fn root_step(laid: &Laid, lists: &mut Lists, map: &mut [u32], seen: &mut [u8], k
     ensures made { low_of lists.new map.new seen.new ≡ root_step (recipe (source_of laid.now)) k (low_of lists.old map.old seen.old) }
 {
     let node = node_at(laid.table, k);
-    if node.kind == BAD {
-        visit(laid, lists, map, seen, k);
+    if node.kind != BAD {
+        return;
     }
+    visit(laid, lists, map, seen, k);
 }
 
 // All of them; there is a mark for each node, and one for none.

@@ -182,7 +182,7 @@ module _ (f : ℕ → Word → Word) (k : ℕ) (ext : (i : ℕ) (s : Word) → E
       (λ j x lt h. ext-weaken s.net _ (j * k + k) (suc j * k) (omega arith) (ext_trans s.net x.net _ (j * k) k h (ext j x)))
 
   module _ (s : Word) (t : GateList) (out : List ℕ) (i : ℕ) (e : word_of t out ≡ iter i f s) where
-    listed-room : (m : ℕ) → i < m → t.n + k ≤ s.net.n + m * k
+    pub listed-room : (m : ℕ) → i < m → t.n + k ≤ s.net.n + m * k
     listed-room m l = omega (arith, ap (λ (x : Word). x.net.n) e, (each-listed s i).grows.upto, mul-le-mul_right {m = suc i} {n = m} k l)
 
 module _ (w : ℕ) (addrs mem adr : List ℕ) (big : 1 ≤ w) (small : w ≤ 64) where

@@ -151,7 +151,7 @@ module _ (n : Here) (l : Lists) (m : List ℕ) (h : Owns (source_of n.laid) n.la
     right-at : get_or o n.node.b 0 ≡ off_of S (node_of S k).b
     right-at = ap (λ (d : Node). get_or o d.b 0) n.is ∙ at_of (node_of S k).b ((node S o (length s.map) k h.stands).operands.b)
 
-    divide-asks : Asks s (get_or o n.node.a 0) (get_or o n.node.b 0) p
+    pub divide-asks : Asks s (get_or o n.node.a 0) (get_or o n.node.b 0) p
     divide-asks = rw (q, left_at, right-at) all-asks
 
     pub divide-room : Room s.net.gates (s.net.n + divide_cost p.wide) × (s.net.n + divide_cost p.wide < 4294967296)

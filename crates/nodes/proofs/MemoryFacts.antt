@@ -173,7 +173,7 @@ module _ (n : Here) (t : GateList) (long : ℕ) (h : Makes (source_of n.laid) n.
     rule : ((node_of S k).width ≡ S.word) × (width_of S.table (node_of S k).a ≡ 0) × (width_of S.table (node_of S k).b ≡ S.word)
     rule = sorts.reads (is-as READ e)
 
-    read-asks : Accesses 4 t long (listed S) (get_or o n.node.a 0) (get_or o n.node.b 0) p × (p.off + p.wide ≤ long)
+    pub read-asks : Accesses 4 t long (listed S) (get_or o n.node.a 0) (get_or o n.node.b 0) p × (p.off + p.wide ≤ long)
     read-asks =
         rw (q, a_at, b_at) (
           accesses 4 (read-gates S k h.stands.is.low (is-as READ e)) (wide_is k rule.0) (ap uses_a (is-as READ e)) (ap uses_b (is-as READ e)) rule.1 rule.2,
@@ -207,7 +207,7 @@ module _ (n : Here) (t : GateList) (long : ℕ) (h : Makes (source_of n.laid) n.
     own-wide : wide_of S k ≡ S.word
     own-wide = memory-wide S k ruled.0
 
-    write-asks : Accesses 5 t long (listed S) (get_or o n.node.a 0) (get_or o n.node.b 0) p × (get_or o n.node.c 0 + p.wide ≤ long) × (p.off + listed S * p.wide ≤ long)
+    pub write-asks : Accesses 5 t long (listed S) (get_or o n.node.a 0) (get_or o n.node.b 0) p × (get_or o n.node.c 0 + p.wide ≤ long) × (p.off + listed S * p.wide ≤ long)
     write-asks =
         rw (q, a_at, b_at, c-at) (
           accesses 5 (write-gates S k h.stands.is.low (is-as WRITE e)) own-wide (ap uses_a (is-as WRITE e)) (ap uses_b (is-as WRITE e)) ruled.1 ruled.2,

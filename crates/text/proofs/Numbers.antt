@@ -19,7 +19,7 @@ use Rattle.text.specs.Number.{digits, decimal, add_digit, digit, number_from, nu
 use Rattle.text.proofs.Decimals.{small-digits, large-digits, decimal-small, decimal-more}
 
 module _ (v c : ℕ) where
-  add_low : c < 48 → None ≡ add_digit v c
+  pub add_low : c < 48 → None ≡ add_digit v c
   unfolding add_digit pick
   add_low h = rw (lt-leb 48 c h)
 
@@ -87,7 +87,7 @@ module _ (s : List ℕ) where
   number_empty h = rw (eq-eqb (length s) 0 h)
 
   module _ (h : length s ≡ 0 → ⊥) where
-    number-rest : (n : Option ℕ) → (eqb (get_or s 0 0) 48 && ltb 1 (length s)) ≡ false → n ≡ number_from (Some 0) s → n ≡ number s
+    pub number-rest : (n : Option ℕ) → (eqb (get_or s 0 0) 48 && ltb 1 (length s)) ≡ false → n ≡ number_from (Some 0) s → n ≡ number s
     unfolding number pick
     number-rest n e f = rw (ne_eqb (length s) 0 h, e) f
 

@@ -20,12 +20,17 @@ pub fn add_onto(
     ensures same { SameList list.old list.new }
     ensures made { chain_of list.new result sum.new ≡ add_onto from right.now w (chain_of list.old carry sum.old) }
 {
+    let mut here = GateList {
+        records: &mut *list.records,
+        n: list.n,
+    };
     let mut c = carry;
     for j in 0..w {
-        let s = list.adder_bit(sum[from + j], right[j], c);
+        let s = here.adder_bit(sum[from + j], right[j], c);
         sum[from + j] = s.sum;
         c = s.carry;
     }
+    list.n = here.n;
     c
 }
 

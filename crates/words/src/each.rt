@@ -35,7 +35,9 @@ pub fn bit_of(list: &mut GateList, op: Bitwise, a: u32, b: u32) -> u32
     }
 }
 
-// The word of w bits that an operation makes of the left and the right word.
+// The word of w bits that an operation makes of the left and the right word. The loop is over `here`, a list of its own in the same buffer, and
+// so are each_onto's, add_onto's and put_each's (division): the next gate's place stays in a register there. Through the lent list it is loaded and
+// stored at each gate, and a 64-bit divu takes a quarter longer.
 pub fn each_bit(
     list: &mut GateList,
     op: Bitwise,
@@ -49,9 +51,14 @@ pub fn each_bit(
     ensures same { SameList list.old list.new }
     ensures made { word_of list.new out.new ≡ each_bit op left.now right.now w (word_of list.old out.old) }
 {
+    let mut here = GateList {
+        records: &mut *list.records,
+        n: list.n,
+    };
     for i in 0..w {
-        out[i] = bit_of(list, op, left[i], right[i]);
+        out[i] = bit_of(&mut here, op, left[i], right[i]);
     }
+    list.n = here.n;
 }
 
 // The same where the right word is replaced by the word that is made. (Not `each_bit` with `out` twice: a slice that is lent to be written is lent once.)
@@ -61,15 +68,24 @@ pub fn each_onto(list: &mut GateList, op: Bitwise, left: &[u32], w: usize, out: 
     ensures same { SameList list.old list.new }
     ensures made { word_of list.new out.new ≡ each_bit op left.now out.old w (word_of list.old out.old) }
 {
+    let mut here = GateList {
+        records: &mut *list.records,
+        n: list.n,
+    };
     for i in 0..w {
-        out[i] = bit_of(list, op, left[i], out[i]);
+        out[i] = bit_of(&mut here, op, left[i], out[i]);
     }
+    list.n = here.n;
 }
 
-// The first w bits of a word put into a list from a place on.
+// The first w bits of a word put into a list from a place on. By a loop: std's copy of one slice into another, where a shift calls this on two words that
+// are lent, makes the archive for C ask its linker for `memmove`, which it needs for nothing else.
+#[tactic(auto, using(loops::proofs::Loop::for_loop))]
 pub fn put_bits(map: &mut [u32], from: usize, bits: &[u32], w: usize)
     requires { (from + w ≤ length map.old) × (w ≤ length bits.now) }
     ensures { map.new ≡ put_bits from bits.now w map.old }
 {
-    map[from..from + w].copy_from_slice(&bits[..w]);
+    for i in 0..w {
+        map[from + i] = bits[i];
+    }
 }

@@ -5,6 +5,6 @@ use Rattle.words.proofs.each.each_bit.Given as goal
 
 abbrev pub invariant-loop-i : goal.invariant-loop-i
 invariant-loop-i l = record {
-  same : SameList l.initial.list l.list;
-  made : word_of l.list l.out ≡ each_bit l.op l.left l.right l.i (word_of l.initial.list l.initial.out);
+  same : SameList l.initial.here l.here;
+  made : word_of l.here l.out ≡ each_bit l.op l.left l.right l.i (word_of l.initial.here l.initial.out);
 }

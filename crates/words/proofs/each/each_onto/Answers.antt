@@ -10,8 +10,8 @@ loop-i-init c = search (rules, loop-none)
 
 pub bit_of-requires : goal.bit_of-requires
 bit_of-requires c =
-    omega (arith, each-onto-room c.args.op c.args.left.now (word_of c.args.list.now c.args.out.now) c.loop-i.list _ c.loop-i.i c.loop-i.invariant.made c.args.w c.loop-i-test.true)
+    omega (arith, each-onto-room c.args.op c.args.left.now (word_of c.args.list.now c.args.out.now) c.loop-i.here _ c.loop-i.i c.loop-i.invariant.made c.args.w c.loop-i-test.true)
 
 pub loop-i-preserved : goal.loop-i-preserved
 loop-i-preserved c =
-    search (rules, loop-more, each-onto-turn c.args.op c.args.left.now (word_of c.args.list.now c.args.out.now) c.loop-i.list c.loop-i.out c.loop-i.i c.loop-i.invariant.made)
+    search (rules, loop-more, each-onto-turn c.args.op c.args.left.now (word_of c.args.list.now c.args.out.now) c.loop-i.here c.loop-i.out c.loop-i.i c.loop-i.invariant.made)
